@@ -2,11 +2,12 @@ ghost use mathlib.Core.Path.{_≡_};
 ghost use Rattle.units.specs.Ranges.{isParticipant};
 
 /// The number of a participant. The market has 1 to 64; any other number is nobody's, and calls refuse it.
-#[derive(Clone, Copy, PartialEq, Eq, Debug)]
+#[derive(Clone, Copy, PartialEq, Debug)]
 pub struct Participant(pub u16);
 
 impl Participant {
     pub const FIRST: u16 = 1;
+
     pub const LAST: u16 = 64;
 
     /// Whether somebody has this number.

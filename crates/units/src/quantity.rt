@@ -3,20 +3,21 @@ ghost use Rattle.units.specs.Ranges.{isPrice, isOrderSize};
 ghost use Rattle.units.specs.Worth.{worth};
 
 /// A price in whole price steps. An order's limit and a cut-off lie from 1 to 1,000,000,000.
-#[derive(Clone, Copy, PartialEq, Eq, Debug)]
+#[derive(Clone, Copy, PartialEq, Debug)]
 pub struct Price(pub u32);
 
 /// A number of lots. One order has 1 to 1,000,000, all participants together at most 10^12.
-#[derive(Clone, Copy, PartialEq, Eq, Debug)]
+#[derive(Clone, Copy, PartialEq, Debug)]
 pub struct Lots(pub u64);
 
 /// Money: price steps times lots. All participants together have at most 10^18.
 /// It is wide enough for any price times any lots, so a product is never refused.
-#[derive(Clone, Copy, PartialEq, Eq, Debug)]
+#[derive(Clone, Copy, PartialEq, Debug)]
 pub struct Money(pub u128);
 
 impl Price {
     pub const LOWEST: u32 = 1;
+
     pub const HIGHEST: u32 = 1_000_000_000;
 
     /// Whether an order may have this price as its limit.
@@ -36,6 +37,7 @@ impl Price {
 
 impl Lots {
     pub const LEAST_ORDER: u64 = 1;
+
     pub const LARGEST_ORDER: u64 = 1_000_000;
     /// The most lots that all participants together may hold.
     pub const GREATEST_TOTAL: u64 = 1_000_000_000_000;

@@ -1,0 +1,4 @@
+pub mod Accounts
+pub mod Amounts
+pub mod Calls
+pub mod Refusals

@@ -1,0 +1,24 @@
+use units::Lots;
+use units::LotsDebug;
+use units::LotsPartialEq;
+use units::Money;
+use units::MoneyDebug;
+use units::MoneyPartialEq;
+
+/// What one participant holds. Blocked amounts cover waiting orders; free ones are at the participant's hand.
+#[derive(Clone, Copy, PartialEq, Debug)]
+pub struct Account {
+    pub free_lots: Lots,
+    pub blocked_lots: Lots,
+    pub free_money: Money,
+    pub blocked_money: Money,
+}
+
+impl Account {
+    pub const EMPTY: Account = Account {
+        free_lots: Lots(0),
+        blocked_lots: Lots(0),
+        free_money: Money(0),
+        blocked_money: Money(0),
+    };
+}

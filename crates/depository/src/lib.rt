@@ -1,0 +1,30 @@
+//! What participants hold: the interfaces of a depository, and two depositories.
+
+mod account;
+mod amount;
+mod fault;
+mod figures;
+mod holdings;
+mod interface;
+mod moves;
+mod office;
+mod store;
+mod table;
+mod table_calls;
+
+pub use account::Account;
+pub use account::AccountDebug;
+pub use account::AccountPartialEq;
+pub use amount::Amount;
+pub use amount::AmountDebug;
+pub use amount::AmountPartialEq;
+pub use fault::DepositoryFault;
+pub use fault::DepositoryFaultDebug;
+pub use fault::DepositoryFaultPartialEq;
+pub use holdings::Holdings;
+pub use holdings::held_in_all;
+pub use interface::Depository;
+pub use office::BackOffice;
+pub use table::TableDepository;
+pub use table_calls::TableAccounts;
+pub use table_calls::TableOffice;
