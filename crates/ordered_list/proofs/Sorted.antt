@@ -1,0 +1,71 @@
+-- A list in order stays in order.
+use Prim.Native.Nat.{ℕ, zero, suc}
+use mathlib.Core.Path.{_≡_, refl}
+use mathlib.Core.List.{List, [], _∷_}
+use mathlib.Core.Bool.{Bool, true, false, cond, not, _&&_}
+use mathlib.Core.Logic.{inl, inr}
+use Rattle.std.specs.Holes.{inserted, removed}
+use Rattle.std.proofs.shelf.Tests.{cases-bool, both-ways, and-parts, and-from, not-true, not-from-false}
+use Rattle.ordered_list.specs.Order.{allAfter, afterNone, inOrder, positionOf, placed}
+use Rattle.ordered_list.proofs.Laws.{Lawful, not-after-chain}
+
+-- x ranks after none of those that rank after it
+none-of-all : {X : Type 0} (after : X → X → Bool) → Lawful after → (x : X) (ys : List X) → allAfter after x ys ≡ true → afterNone after x ys ≡ true
+none-of-all after l x [] e = refl
+none-of-all after l x (y ∷ ys) e =
+    let p = and-parts (after y x) (allAfter after x ys) e in
+    and-from (not (after x y)) (afterNone after x ys) (not-from-false (after x y) (l .apart y x (p .0))) (none-of-all after l x ys (p .1))
+
+-- y, which ranks after none of ys, does not rank after x if one of ys does not
+not-after : {X : Type 0} (after : X → X → Bool) → Lawful after → (x y : X) (ys : List X) → afterNone after y ys ≡ true → allAfter after x ys ≡ false → after y x ≡ false
+not-after after l x y [] n e = absurd (both-ways true e refl)
+not-after after l x y (z ∷ zs) n e =
+    let p = and-parts (not (after y z)) (afterNone after y zs) n in
+    elim (cases-bool (after z x)) [
+      | inr f ↦ not-after-chain after l y z x (not-true (after y z) (p .0)) f
+      | inl t ↦ not-after after l x y zs (p .1) (elim (cases-bool (allAfter after x zs)) [
+        | inr f ↦ f
+        | inl s ↦ absurd (both-ways (after z x && allAfter after x zs) e (and-from (after z x) (allAfter after x zs) t s))
+      ])
+    ]
+
+none-inserted : {X : Type 0} (after : X → X → Bool) (y x : X) (zs : List X) (i : ℕ) → after y x ≡ false → afterNone after y zs ≡ true → afterNone after y (inserted zs i x) ≡ true
+none-inserted after y x zs zero e n = and-from (not (after y x)) (afterNone after y zs) (not-from-false (after y x) e) n
+none-inserted after y x [] (suc i) e n = and-from (not (after y x)) true (not-from-false (after y x) e) refl
+none-inserted after y x (z ∷ zs) (suc i) e n =
+    let p = and-parts (not (after y z)) (afterNone after y zs) n in
+    and-from (not (after y z)) (afterNone after y (inserted zs i x)) (p .0) (none-inserted after y x zs i e (p .1))
+
+pub placed-in-order : {X : Type 0} (after : X → X → Bool) → Lawful after → (x : X) (ys : List X) → inOrder after ys ≡ true → inOrder after (placed after x ys) ≡ true
+placed-in-order after l x [] o = refl
+placed-in-order after l x (y ∷ ys) o =
+    let p = and-parts (afterNone after y ys) (inOrder after ys) o in
+    let P : Bool → Type 0 = λ b. allAfter after x (y ∷ ys) ≡ b → inOrder after (inserted (y ∷ ys) (cond b 0 (suc (positionOf after x ys))) x) ≡ true in
+    elim (allAfter after x (y ∷ ys)) as P [
+      | true ↦ λ e. and-from (afterNone after x (y ∷ ys)) (inOrder after (y ∷ ys)) (none-of-all after l x (y ∷ ys) e) o
+      | false ↦ λ e. and-from (afterNone after y (placed after x ys)) (inOrder after (placed after x ys))
+          (none-inserted after y x ys (positionOf after x ys) (elim (cases-bool (after y x)) [
+            | inr f ↦ f
+            | inl t ↦ not-after after l x y ys (p .0) (elim (cases-bool (allAfter after x ys)) [
+              | inr f ↦ f
+              | inl s ↦ absurd (both-ways (after y x && allAfter after x ys) e (and-from (after y x) (allAfter after x ys) t s))
+            ])
+          ]) (p .0))
+          (placed-in-order after l x ys (p .1))
+    ] refl
+
+none-removed : {X : Type 0} (after : X → X → Bool) (y : X) (zs : List X) (i : ℕ) → afterNone after y zs ≡ true → afterNone after y (removed zs i) ≡ true
+none-removed after y [] zero n = n
+none-removed after y [] (suc i) n = n
+none-removed after y (z ∷ zs) zero n = and-parts (not (after y z)) (afterNone after y zs) n .1
+none-removed after y (z ∷ zs) (suc i) n =
+    let p = and-parts (not (after y z)) (afterNone after y zs) n in
+    and-from (not (after y z)) (afterNone after y (removed zs i)) (p .0) (none-removed after y zs i (p .1))
+
+pub removed-in-order : {X : Type 0} (after : X → X → Bool) (ys : List X) (i : ℕ) → inOrder after ys ≡ true → inOrder after (removed ys i) ≡ true
+removed-in-order after [] zero o = o
+removed-in-order after [] (suc i) o = o
+removed-in-order after (y ∷ ys) zero o = and-parts (afterNone after y ys) (inOrder after ys) o .1
+removed-in-order after (y ∷ ys) (suc i) o =
+    let p = and-parts (afterNone after y ys) (inOrder after ys) o in
+    and-from (afterNone after y (removed ys i)) (inOrder after (removed ys i)) (none-removed after y ys i (p .0)) (removed-in-order after ys i (p .1))

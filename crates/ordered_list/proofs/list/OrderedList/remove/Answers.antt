@@ -1,0 +1,35 @@
+use native.Mathlib.Omega.{arith}
+use Prim.Native.Nat.{_-_, _≤_, _<_}
+use lib.ListN.{length}
+use mathlib.Core.Path.{_≡_, refl, sym, ap, _∙_}
+use Rattle.ordered_list.specs.Order.{inOrder}
+use Rattle.ordered_list.specs.Lists.{listOf, lengthOf, removeList, removeMemory, removeLen}
+use Rattle.ordered_list.proofs.Memory.{remove-none, remove-some, list-remove, order-remove}
+use Rattle.ordered_list.proofs.list.OrderedList.remove.Needs as need
+
+pub returns-then-at-len : need.returns-then-at-len
+returns-then-at-len g c =
+    let h : lengthOf (c .args .self .now .len) (c .args .self .now .lines .now) ≤ c .args .at = omega arith in
+    let r = remove-none (c .args .self .now .len) (c .args .self .now .lines .now) (c .args .at) h in
+    record { same = refl {a = c .args .self .now .lines .name}; long = refl {a = length (c .args .self .now .lines .now)}; answer = simp (r .0); list = r .1; memory = r .2; count = r .3; order = λ o. o }
+
+pub returns : need.returns
+returns g c =
+    let len = c .args .self .now .len in
+    let xs = c .args .self .now .lines .now in
+    let at = c .args .at in
+    let e = c .len-len .ensures in
+    let h : at < lengthOf len xs = omega arith in
+    let r = remove-some len xs at (c .remove-from-line .result) h (c .remove-from-line .ensures .answer) in
+    let memory : c .remove-from-line .last .lines ≡ removeMemory len xs at = let a = c .remove-from-line .ensures .after in let b = r .1 in cc in
+    let count : c .len-len .result - 1 ≡ removeLen len xs at = ap (λ n. n - 1) e ∙ r .2 in
+    let list : listOf (c .len-len .result - 1) (c .remove-from-line .last .lines) ≡ removeList len xs at = let l = list-remove len xs at in cc in
+    record {
+      same = refl {a = c .args .self .now .lines .name};
+      long = c .remove-from-line .kept .lines;
+      answer = simp (r .0);
+      list = list;
+      memory = memory;
+      count = count;
+      order = λ o. ap (inOrder (g .T·Ranked .after)) list ∙ order-remove (g .T·Ranked .after) len xs at o;
+    }
