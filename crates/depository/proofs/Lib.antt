@@ -1,3 +1,5 @@
 pub mod Totals
 pub mod Changes
 pub mod Delivery
+pub mod Entries
+pub mod Lines

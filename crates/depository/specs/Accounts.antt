@@ -1,6 +1,8 @@
 -- The accounts of all participants, as a list: participant 1 is at index 0, participant 64 at index 63.
 use Prim.Native.Nat.{ℕ, _+_, _-_, _≤_}
 use mathlib.Core.List.{List, [], _∷_}
+use mathlib.Core.Bool.{Bool, _&&_}
+use lib.Dec.{eqb}
 use lib.ListN.{getD, set}
 use Rattle.units.specs.Ranges.{mostLots, mostMoney}
 use Rattle.units.specs.declared.participant.Participant.{Participant}
@@ -17,6 +19,10 @@ account freeLots blockedLots freeMoney blockedMoney = record {
 
 abbrev pub empty : Account
 empty = account 0 0 0 0
+
+-- all four amounts are 0
+abbrev pub isEmpty : Account → Bool
+isEmpty a = eqb (a .«free_lots» .0) 0 && (eqb (a .«blocked_lots» .0) 0 && (eqb (a .«free_money» .0) 0 && eqb (a .«blocked_money» .0) 0))
 
 -- holdings are free plus blocked
 abbrev pub lotsHeld : Account → ℕ

@@ -1,3 +1,5 @@
+ghost use mathlib.Core.Path.{_≡_};
+ghost use Rattle.depository.specs.Accounts.{isEmpty};
 use units::Lots;
 use units::LotsDebug;
 use units::LotsPartialEq;
@@ -21,4 +23,14 @@ impl Account {
         free_money: Money(0),
         blocked_money: Money(0),
     };
+
+    /// Whether all four amounts are 0.
+    pub fn is_empty(self) -> bool
+        ensures { λ r. ⌜ r ≡ isEmpty self ⌝ }
+    {
+        self.free_lots.0 == 0
+            && self.blocked_lots.0 == 0
+            && self.free_money.0 == 0
+            && self.blocked_money.0 == 0
+    }
 }
