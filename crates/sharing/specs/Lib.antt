@@ -1,2 +1,3 @@
+pub mod ByTime
 pub mod Refusals
 pub mod Shares

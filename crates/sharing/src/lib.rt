@@ -1,10 +1,13 @@
 //! How the lots of one price level are shared out where not all of them fit: the rules, and what every rule promises.
 
+mod by_time;
 mod check;
 mod fault;
 mod rule;
 mod shares;
 
+pub use by_time::ByTime;
+pub use by_time::ByTimeRule;
 pub use check::LARGEST_LINE;
 pub use check::MOST_LINES;
 pub use check::checked_sum;

@@ -1,0 +1,25 @@
+use Prim.Native.Nat.{_≤_, _<_}
+use native.Mathlib.Omega.{arith}
+use mathlib.Core.Path.{sym, _∙_}
+use lib.ListN.{length}
+use Rattle.sharing.specs.declared.shares.Share.{Share}
+use Rattle.sharing.proofs.Walks.{walk-more, walk-all}
+use Rattle.sharing.proofs.TimeLaws.{time-write, time-next, time-walk}
+use Rattle.sharing.proofs.by_time.fill_by_time.Needs as need
+
+abbrev blank : Share
+blank = record { lots = record { 0 = 0 }; share = record { 0 = 0 } }
+
+pub loop-line-again : need.loop-line-again
+loop-line-again c =
+    let m = walk-more time-write time-next (c .loop-line .lines) (c .loop-line .line-index) (c .loop-line .left) blank (omega arith) in
+    let e = c .min-part .ensures in
+    rw e (m ∙ c .loop-line .inv)
+
+pub returns : need.returns
+returns c =
+    let lines = c .loop-line .lines in
+    let i = c .loop-line .line-index in
+    let h : length lines ≤ i = omega arith in
+    sym (walk-all time-write time-next lines i (c .loop-line .left) h) ∙ c .loop-line .inv ∙
+    time-walk (c .args .lines .now) (c .args .total .0)
