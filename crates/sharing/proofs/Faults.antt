@@ -8,16 +8,17 @@ use lib.Dec.{ltb}
 use lib.ListN.{length, getD, take}
 use Rattle.std.specs.shelf.Lists.{sum, sumBy, All}
 use Rattle.std.proofs.shelf.Lists.{take-all}
-use Rattle.std.proofs.shelf.Sums.{sum-map}
+use Rattle.std.proofs.shelf.Sums.{sum-map, sumBy-le}
 use Rattle.std.proofs.shelf.Elements.{all-map}
 use Rattle.std.proofs.shelf.Tests.{lt-ltb, le-ltb, ltb-false, or-left, or-right, or-from, or-parts}
 use Rattle.std.specs.declared.option.Option.{Option}
 use Rattle.std.specs.declared.option.Option.the-variants.{Some, None}
 use Rattle.std.specs.declared.result.Result.the-variants.{Ok, Err}
+use Rattle.units.specs.declared.quantity.Lots.{Lots}
 use Rattle.sharing.specs.declared.shares.Share.{Share}
 use Rattle.sharing.specs.declared.fault.SharingFault.{SharingFault}
 use Rattle.sharing.specs.declared.fault.SharingFault.the-variants.{TooManyLines, LineTooLarge, TotalTooLarge}
-use Rattle.sharing.specs.Shares.{lotsOf, Accepted, someOver, faultIn, orFault}
+use Rattle.sharing.specs.Shares.{lotsOf, Accepted, someOver, faultIn, orFault, sumOrFault, filled, unlessFault, linesAfter}
 
 -- an answer where there is a fault, and where there is none
 pub refused : {A : Type 0} (o : Option SharingFault) (f : SharingFault) (x : A) → o ≡ Some f → Err f ≡ orFault o x
@@ -99,6 +100,20 @@ accepted lots n e =
         record
         { few = ltb-false 512 (length lots) p; small = all-small lots q; reached = ltb-false (sum lots) n r }
 
+-- what the check tells where it lets a call pass
+pub check-passed :
+    (lots : List ℕ) (n : ℕ) (all : Lots) → Ok all ≡ sumOrFault lots n →
+    (faultIn lots n ≡ None) × (all .0 ≡ sum lots) × Accepted lots n
+check-passed lots n all e =
+    let f = fault-free (faultIn lots n) (record { 0 = sum lots }) all e in
+    (f .0, ap (λ k. k .0) (f .1), accepted lots n (f .0))
+
+-- then a call writes the rule's shares
+pub written :
+    (rule : List ℕ → ℕ → List ℕ) (lines : List Share) (n : ℕ) → faultIn (lotsOf lines) n ≡ None →
+    linesAfter rule lines n ≡ filled lines (rule (lotsOf lines) n)
+written rule lines n e = ap (λ o. unlessFault o lines (filled lines (rule (lotsOf lines) n))) e
+
 -- what a pass over the lines has found when it is through
 pub seen-all :
     (lines : List Share) (i s : ℕ) → length lines ≤ i → s ≡ sumBy (λ line. line .lots .0) (take i lines) →
@@ -109,3 +124,7 @@ seen-all lines i s h e a =
       e ∙ ap (λ xs. sumBy (λ line. line .lots .0) xs) t ∙ sym (sum-map (λ line. line .lots .0) lines),
       all-map (λ x. x ≤ 1000000) (λ line. line .lots .0) lines (rw t at a),
     )
+
+-- a total that can be shared out is at most 512 times 1,000,000
+pub total-small : (lots : List ℕ) (n : ℕ) → Accepted lots n → n ≤ 512000000
+total-small lots n a = omega (arith, a .few, a .reached, sumBy-le (λ x. x) 1000000 lots (a .small))

@@ -4,6 +4,7 @@ use mathlib.Core.Path.{_≡_, sym, ap, _∙_}
 use mathlib.Core.List.{List, [], _∷_, _++_, append-assoc}
 use native.Mathlib.Omega.{arith}
 use lib.ListN.{length, getD, set, take, drop}
+use Rattle.std.specs.shelf.Lists.{All}
 use Rattle.std.proofs.shelf.Lists.{take-all, drop-all, append-nil, drop-more, take-more-set, drop-set-lt}
 
 module _ {S X : Type 0} (write : S → X → X) (next : S → X → S) where
@@ -11,6 +12,11 @@ module _ {S X : Type 0} (write : S → X → X) (next : S → X → S) where
   abbrev pub walk : S → List X → List X
   walk s [] = []
   walk s (x ∷ xs) = write s x ∷ walk (next s x) xs
+
+  -- the state that it ends in
+  abbrev pub walk-end : S → List X → S
+  walk-end s [] = s
+  walk-end s (x ∷ xs) = walk-end (next s x) xs
 
   -- what it will have made of xs, when it stands at i
   abbrev pub walk-from : List X → ℕ → S → List X
@@ -32,3 +38,23 @@ module _ {S X : Type 0} (write : S → X → X) (next : S → X → S) where
       let t = take-all i xs h in
       let d = drop-all i xs h in
       simp (t, d, append-nil)
+
+  -- the same of the state
+  pub end-more :
+      (xs : List X) (i : ℕ) (s : S) (y d : X) → i < length xs →
+      walk-end (next s (getD xs i d)) (drop (i + 1) (set xs i y)) ≡ walk-end s (drop i xs)
+  end-more xs i s y d h =
+      let q = drop-set-lt (i + 1) xs i y (omega arith) in
+      rw q (sym (ap (walk-end s) (drop-more xs i d h)))
+
+  pub end-all : (xs : List X) (i : ℕ) (s : S) → length xs ≤ i → walk-end s (drop i xs) ≡ s
+  end-all xs i s h = ap (walk-end s) (drop-all i xs h)
+
+-- what holds of each element that the pass has yet to reach
+pub ahead-more :
+    {X : Type 0} (P : X → Type 0) (xs : List X) (i : ℕ) (y d : X) → i < length xs → All P (drop i xs) →
+    P (getD xs i d) × All P (drop (i + 1) (set xs i y))
+ahead-more P xs i y d h a =
+    let q = drop-set-lt (i + 1) xs i y (omega arith) in
+    let b = rw (drop-more xs i d h) at a in
+    (b .0, rw q (b .1))

@@ -1,3 +1,4 @@
 pub mod ByTime
+pub mod ProRata
 pub mod Refusals
 pub mod Shares

@@ -3,6 +3,7 @@
 mod by_time;
 mod check;
 mod fault;
+mod pro_rata;
 mod rule;
 mod shares;
 
@@ -12,5 +13,7 @@ pub use check::LARGEST_LINE;
 pub use check::MOST_LINES;
 pub use check::checked_sum;
 pub use fault::SharingFault;
+pub use pro_rata::ProRata;
+pub use pro_rata::ProRataRule;
 pub use rule::SharingRule;
 pub use shares::Share;

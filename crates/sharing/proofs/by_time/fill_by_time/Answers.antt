@@ -2,13 +2,10 @@ use Prim.Native.Nat.{_≤_, _<_}
 use native.Mathlib.Omega.{arith}
 use mathlib.Core.Path.{sym, _∙_}
 use lib.ListN.{length}
-use Rattle.sharing.specs.declared.shares.Share.{Share}
+use Rattle.sharing.proofs.Lines.{blank}
 use Rattle.sharing.proofs.Walks.{walk-more, walk-all}
 use Rattle.sharing.proofs.TimeLaws.{time-write, time-next, time-walk}
 use Rattle.sharing.proofs.by_time.fill_by_time.Needs as need
-
-abbrev blank : Share
-blank = record { lots = record { 0 = 0 }; share = record { 0 = 0 } }
 
 pub loop-line-again : need.loop-line-again
 loop-line-again c =

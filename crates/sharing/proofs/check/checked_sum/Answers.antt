@@ -6,14 +6,11 @@ use Rattle.std.specs.shelf.Lists.{All}
 use Rattle.std.proofs.shelf.Lists.{length-map, length-take}
 use Rattle.std.proofs.shelf.Sums.{sumBy-more, sumBy-le}
 use Rattle.std.proofs.shelf.Elements.{all-more}
-use Rattle.sharing.specs.declared.shares.Share.{Share}
+use Rattle.sharing.proofs.Lines.{blank}
 use Rattle.sharing.specs.declared.fault.SharingFault.the-variants.{TooManyLines, LineTooLarge, TotalTooLarge}
 use Rattle.sharing.specs.Shares.{lotsOf, Accepted}
 use Rattle.sharing.proofs.Faults.{refused, answered, fault-many, fault-large, fault-total, no-fault, seen-all}
 use Rattle.sharing.proofs.check.checked_sum.Needs as need
-
-abbrev blank : Share
-blank = record { lots = record { 0 = 0 }; share = record { 0 = 0 } }
 
 pub returns-then-lines-gt-MOST-LINES : need.returns-then-lines-gt-MOST-LINES
 returns-then-lines-gt-MOST-LINES c =
