@@ -8,7 +8,7 @@ use super::shares::Share;
 use units::Lots;
 
 /// Earlier lines first: each gets the lesser of its lots and what the lines before it left of the total.
-#[derive(Clone, Copy, PartialEq, Eq, Debug)]
+#[derive(Clone, Copy)]
 pub struct ByTime;
 
 pub impl SharingRule for ByTime as ByTimeRule {

@@ -11,7 +11,7 @@ use units::Lots;
 
 /// By size: each line gets its lots times the total over the sum of lots, rounded down. What is left then goes out one lot
 /// a line, earliest line first, to the lines whose share is below their lots, even where it is 0.
-#[derive(Clone, Copy, PartialEq, Eq, Debug)]
+#[derive(Clone, Copy)]
 pub struct ProRata;
 
 pub impl SharingRule for ProRata as ProRataRule {
