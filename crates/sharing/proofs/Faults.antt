@@ -1,5 +1,5 @@
 -- Which fault there is in lines and a total, and where there is none.
-use Prim.Native.Nat.{ℕ, zero, suc, _≤_, _<_}
+use Prim.Native.Nat.{ℕ, zero, suc, _*_, _≤_, _<_}
 use mathlib.Core.Path.{_≡_, refl, sym, ap, _∙_}
 use mathlib.Core.Bool.{Bool, true, false, cond, _||_}
 use mathlib.Core.List.{List, [], _∷_}
@@ -18,7 +18,8 @@ use Rattle.units.specs.declared.quantity.Lots.{Lots}
 use Rattle.sharing.specs.declared.shares.Share.{Share}
 use Rattle.sharing.specs.declared.fault.SharingFault.{SharingFault}
 use Rattle.sharing.specs.declared.fault.SharingFault.the-variants.{TooManyLines, LineTooLarge, TotalTooLarge}
-use Rattle.sharing.specs.Shares.{lotsOf, Accepted, someOver, faultIn, orFault, sumOrFault, filled, unlessFault, linesAfter}
+use Rattle.sharing.proofs.Lines.{Small}
+use Rattle.sharing.specs.Shares.{lotsOf, mostLines, largestLine, Accepted, someOver, faultIn, orFault, sumOrFault, filled, unlessFault, linesAfter}
 
 -- an answer where there is a fault, and where there is none
 pub refused : {A : Type 0} (o : Option SharingFault) (f : SharingFault) (x : A) → o ≡ Some f → Err f ≡ orFault o x
@@ -36,42 +37,42 @@ pub fault-free : {A : Type 0} (o : Option SharingFault) (x y : A) → Ok y ≡ o
 fault-free None x y e = (refl, cc)
 fault-free (Some g) x y e = absurd (grind arith)
 
--- no line is over 1,000,000 lots where each is at most that
-none-over : (lots : List ℕ) → All (λ x. x ≤ 1000000) lots → someOver lots ≡ false
+-- no line is too large where each is at most the largest
+none-over : (lots : List ℕ) → All (λ x. x ≤ largestLine) lots → someOver lots ≡ false
 none-over [] a = refl
-none-over (x ∷ xs) a = or-from (ltb 1000000 x) (someOver xs) (le-ltb 1000000 x (a .0)) (none-over xs (a .1))
+none-over (x ∷ xs) a = or-from (ltb largestLine x) (someOver xs) (le-ltb largestLine x (a .0)) (none-over xs (a .1))
 
 -- and the other way round
-all-small : (lots : List ℕ) → someOver lots ≡ false → All (λ x. x ≤ 1000000) lots
+all-small : (lots : List ℕ) → someOver lots ≡ false → All (λ x. x ≤ largestLine) lots
 all-small [] e = tt
 all-small (x ∷ xs) e =
-    let p = or-parts (ltb 1000000 x) (someOver xs) e in (ltb-false 1000000 x (p .0), all-small xs (p .1))
+    let p = or-parts (ltb largestLine x) (someOver xs) e in (ltb-false largestLine x (p .0), all-small xs (p .1))
 
 -- some line is over where the one at i is
 over-at :
-    (lines : List Share) (i : ℕ) (d : Share) → i < length lines → 1000000 < getD lines i d .lots .0 →
+    (lines : List Share) (i : ℕ) (d : Share) → i < length lines → largestLine < getD lines i d .lots .0 →
     someOver (lotsOf lines) ≡ true
 over-at [] i d l h = absurd (omega arith)
-over-at (x ∷ xs) zero d l h = or-left (ltb 1000000 (x .lots .0)) (someOver (lotsOf xs)) (lt-ltb 1000000 (x .lots .0) h)
+over-at (x ∷ xs) zero d l h = or-left (ltb largestLine (x .lots .0)) (someOver (lotsOf xs)) (lt-ltb largestLine (x .lots .0) h)
 over-at (x ∷ xs) (suc i) d l h =
-    or-right (ltb 1000000 (x .lots .0)) (someOver (lotsOf xs)) (over-at xs i d (omega arith) h)
+    or-right (ltb largestLine (x .lots .0)) (someOver (lotsOf xs)) (over-at xs i d (omega arith) h)
 
-pub fault-many : (lots : List ℕ) (n : ℕ) → 512 < length lots → faultIn lots n ≡ Some TooManyLines
-fault-many lots n h = let t = lt-ltb 512 (length lots) h in simp t
+pub fault-many : (lots : List ℕ) (n : ℕ) → mostLines < length lots → faultIn lots n ≡ Some TooManyLines
+fault-many lots n h = let t = lt-ltb mostLines (length lots) h in simp t
 
 pub fault-large :
-    (lines : List Share) (n i : ℕ) (d : Share) → length (lotsOf lines) ≤ 512 → i < length lines →
-    1000000 < getD lines i d .lots .0 → faultIn (lotsOf lines) n ≡ Some LineTooLarge
+    (lines : List Share) (n i : ℕ) (d : Share) → length (lotsOf lines) ≤ mostLines → i < length lines →
+    largestLine < getD lines i d .lots .0 → faultIn (lotsOf lines) n ≡ Some LineTooLarge
 fault-large lines n i d h l o =
-    let t = le-ltb 512 (length (lotsOf lines)) h in
+    let t = le-ltb mostLines (length (lotsOf lines)) h in
     let u = over-at lines i d l o in
     simp (t, u)
 
 pub fault-total :
-    (lots : List ℕ) (n : ℕ) → length lots ≤ 512 → All (λ x. x ≤ 1000000) lots → sum lots < n →
+    (lots : List ℕ) (n : ℕ) → length lots ≤ mostLines → All (λ x. x ≤ largestLine) lots → sum lots < n →
     faultIn lots n ≡ Some TotalTooLarge
 fault-total lots n h a l =
-    let t = le-ltb 512 (length lots) h in
+    let t = le-ltb mostLines (length lots) h in
     let o = none-over lots a in
     let u = lt-ltb (sum lots) n l in
     simp (t, o, u)
@@ -79,7 +80,7 @@ fault-total lots n h a l =
 -- what can be shared out has no fault
 pub no-fault : (lots : List ℕ) (n : ℕ) → Accepted lots n → faultIn lots n ≡ None
 no-fault lots n a =
-    let t = le-ltb 512 (length lots) (a .few) in
+    let t = le-ltb mostLines (length lots) (a .few) in
     let o = none-over lots (a .small) in
     let u = le-ltb (sum lots) n (a .reached) in
     simp (t, o, u)
@@ -87,10 +88,10 @@ no-fault lots n a =
 -- and where there is no fault, all can be shared out
 pub accepted : (lots : List ℕ) (n : ℕ) → faultIn lots n ≡ None → Accepted lots n
 accepted lots n e =
-    by (ltb 512 (length lots)) (someOver lots) (ltb (sum lots) n) refl refl refl e
+    by (ltb mostLines (length lots)) (someOver lots) (ltb (sum lots) n) refl refl refl e
   where
     by :
-        (a b c : Bool) → ltb 512 (length lots) ≡ a → someOver lots ≡ b → ltb (sum lots) n ≡ c →
+        (a b c : Bool) → ltb mostLines (length lots) ≡ a → someOver lots ≡ b → ltb (sum lots) n ≡ c →
         cond a (Some TooManyLines) (cond b (Some LineTooLarge) (cond c (Some TotalTooLarge) None)) ≡ None →
         Accepted lots n
     by true b c p q r f = absurd (grind arith)
@@ -98,7 +99,7 @@ accepted lots n e =
     by false false true p q r f = absurd (grind arith)
     by false false false p q r f =
         record
-        { few = ltb-false 512 (length lots) p; small = all-small lots q; reached = ltb-false (sum lots) n r }
+        { few = ltb-false mostLines (length lots) p; small = all-small lots q; reached = ltb-false (sum lots) n r }
 
 -- what the check tells where it lets a call pass
 pub check-passed :
@@ -117,14 +118,14 @@ written rule lines n e = ap (λ o. unlessFault o lines (filled lines (rule (lots
 -- what a pass over the lines has found when it is through
 pub seen-all :
     (lines : List Share) (i s : ℕ) → length lines ≤ i → s ≡ sumBy (λ line. line .lots .0) (take i lines) →
-    All (λ line. line .lots .0 ≤ 1000000) (take i lines) →
-    (s ≡ sum (lotsOf lines)) × All (λ x. x ≤ 1000000) (lotsOf lines)
+    All Small (take i lines) →
+    (s ≡ sum (lotsOf lines)) × All (λ x. x ≤ largestLine) (lotsOf lines)
 seen-all lines i s h e a =
     let t = take-all i lines h in (
       e ∙ ap (λ xs. sumBy (λ line. line .lots .0) xs) t ∙ sym (sum-map (λ line. line .lots .0) lines),
-      all-map (λ x. x ≤ 1000000) (λ line. line .lots .0) lines (rw t at a),
+      all-map (λ x. x ≤ largestLine) (λ line. line .lots .0) lines (rw t at a),
     )
 
--- a total that can be shared out is at most 512 times 1,000,000
-pub total-small : (lots : List ℕ) (n : ℕ) → Accepted lots n → n ≤ 512000000
-total-small lots n a = omega (arith, a .few, a .reached, sumBy-le (λ x. x) 1000000 lots (a .small))
+-- a total that can be shared out is at most the largest line times the most lines
+pub total-small : (lots : List ℕ) (n : ℕ) → Accepted lots n → n ≤ (mostLines * largestLine)
+total-small lots n a = omega (arith, a .few, a .reached, sumBy-le (λ x. x) largestLine lots (a .small))

@@ -6,11 +6,15 @@ use native.Mathlib.Omega.{arith}
 use lib.ListN.{length}
 use Rattle.std.specs.shelf.Lists.{All}
 use Rattle.sharing.specs.declared.shares.Share.{Share}
-use Rattle.sharing.specs.Shares.{lotsOf, sharesOf, filled}
+use Rattle.sharing.specs.Shares.{lotsOf, sharesOf, largestLine, filled}
 
 -- what a read past the end gives
 abbrev pub blank : Share
 blank = record { lots = record { 0 = 0 }; share = record { 0 = 0 } }
+
+-- a line that is not too large
+abbrev pub Small : Share → Type 0
+Small line = line .lots .0 ≤ largestLine
 
 -- writing shares keeps the lots
 pub lots-filled : (lines : List Share) (ys : List ℕ) → lotsOf (filled lines ys) ≡ lotsOf lines
@@ -34,8 +38,8 @@ filled-filled (x ∷ xs) (y ∷ ys) [] e = absurd (omega arith)
 filled-filled (x ∷ xs) (y ∷ ys) (z ∷ zs) e =
     ap (λ ws. record { lots = x .lots; share = record { 0 = z } } ∷ ws) (filled-filled xs ys zs (omega arith))
 
--- lines of small lots are small lines
+-- which each is where no lots are too large
 pub lines-small :
-    (lines : List Share) → All (λ x. x ≤ 1000000) (lotsOf lines) → All (λ line. line .lots .0 ≤ 1000000) lines
+    (lines : List Share) → All (λ x. x ≤ largestLine) (lotsOf lines) → All Small lines
 lines-small [] a = tt
 lines-small (x ∷ xs) a = (a .0, lines-small xs (a .1))

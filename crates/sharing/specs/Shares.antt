@@ -22,21 +22,28 @@ lotsOf lines = map (λ line. line .lots .0) lines
 abbrev pub sharesOf : List Share → List ℕ
 sharesOf lines = map (λ line. line .share .0) lines
 
--- what a rule has to share out: at most 512 lines, none over 1,000,000 lots, and a total that their lots reach
+-- the most lines that a rule shares among, and the most lots of a line
+abbrev pub mostLines : ℕ
+mostLines = 512
+
+abbrev pub largestLine : ℕ
+largestLine = 1000000
+
+-- what a rule has to share out: not too many lines, none too large, and a total that their lots reach
 pub record Accepted (lots : List ℕ) (total : ℕ) : Type 0 where
-  pub few : length lots ≤ 512
-  pub small : All (λ x. x ≤ 1000000) lots
+  pub few : length lots ≤ mostLines
+  pub small : All (λ x. x ≤ largestLine) lots
   pub reached : total ≤ sum lots
 
--- whether some line has over 1,000,000 lots
+-- whether some line is too large
 abbrev pub someOver : List ℕ → Bool
 someOver [] = false
-someOver (x ∷ xs) = ltb 1000000 x || someOver xs
+someOver (x ∷ xs) = ltb largestLine x || someOver xs
 
 -- why nothing is shared out, if so: the first of the three faults that there is
 abbrev pub faultIn : List ℕ → ℕ → Option SharingFault
 faultIn lots total =
-    cond (ltb 512 (length lots)) (Some TooManyLines)
+    cond (ltb mostLines (length lots)) (Some TooManyLines)
     (cond (someOver lots) (Some LineTooLarge)
     (cond (ltb (sum lots) total) (Some TotalTooLarge) None))
 

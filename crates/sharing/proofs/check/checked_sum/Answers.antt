@@ -1,4 +1,3 @@
-use Prim.Native.Nat.{_≤_}
 use native.Mathlib.Omega.{arith}
 use mathlib.Core.Path.{_≡_}
 use lib.ListN.{length, take}
@@ -6,9 +5,9 @@ use Rattle.std.specs.shelf.Lists.{All}
 use Rattle.std.proofs.shelf.Lists.{length-map, length-take}
 use Rattle.std.proofs.shelf.Sums.{sumBy-more, sumBy-le}
 use Rattle.std.proofs.shelf.Elements.{all-more}
-use Rattle.sharing.proofs.Lines.{blank}
+use Rattle.sharing.proofs.Lines.{blank, Small}
 use Rattle.sharing.specs.declared.fault.SharingFault.the-variants.{TooManyLines, LineTooLarge, TotalTooLarge}
-use Rattle.sharing.specs.Shares.{lotsOf, Accepted}
+use Rattle.sharing.specs.Shares.{lotsOf, largestLine, Accepted}
 use Rattle.sharing.proofs.Faults.{refused, answered, fault-many, fault-large, fault-total, no-fault, seen-all}
 use Rattle.sharing.proofs.check.checked_sum.Needs as need
 
@@ -30,7 +29,7 @@ returns-then-line-gt-LARGEST-LINE c =
 pub add-sum : need.add-sum
 add-sum c =
     let lines = take (c .loop-line .line-index) (c .args .lines .now) in
-    let b = sumBy-le (λ line. line .lots .0) 1000000 lines (c .loop-line .inv .1) in
+    let b = sumBy-le (λ line. line .lots .0) largestLine lines (c .loop-line .inv .1) in
     omega (arith, b, length-take (c .loop-line .line-index) (c .args .lines .now), c .loop-line .inv .0)
 
 pub loop-line-again : need.loop-line-again
@@ -40,7 +39,7 @@ loop-line-again c =
     let h = c .loop-line-test .taken in
     let s = sumBy-more (λ line. line .lots .0) lines i blank h in (
       omega (arith, s, c .loop-line .inv .0),
-      all-more (λ line. line .lots .0 ≤ 1000000) lines i blank h (c .loop-line .inv .1) (c .if-line-gt-LARGEST-LINE .left),
+      all-more Small lines i blank h (c .loop-line .inv .1) (c .if-line-gt-LARGEST-LINE .left),
     )
 
 pub returns-then-total-sum : need.returns-then-total-sum

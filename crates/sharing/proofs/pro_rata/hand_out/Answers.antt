@@ -7,9 +7,6 @@ use Rattle.sharing.proofs.Walks.{walk-more, walk-all}
 use Rattle.sharing.proofs.RataPasses.{top-write, top-next, top-walk}
 use Rattle.sharing.proofs.pro_rata.hand_out.Needs as need
 
-pub add-line : need.add-line
-add-line c = omega (arith, c .room .ensures .fits)
-
 pub loop-line-again : need.loop-line-again
 loop-line-again c =
     let lines = c .loop-line .lines in

@@ -1,14 +1,14 @@
-use Prim.Native.Nat.{_≤_, _<_}
+use Prim.Native.Nat.{_*_, _≤_, _<_}
 use native.Mathlib.Omega.{arith}
 use mathlib.Core.Path.{refl, sym, ap, _∙_}
 use mathlib.Core.List.{map}
 use lib.ListN.{length, getD}
 use Rattle.std.proofs.shelf.Bits.{mul-le}
 use Rattle.std.specs.shelf.Lists.{sum}
-use Rattle.sharing.specs.Shares.{lotsOf, filled}
+use Rattle.sharing.specs.Shares.{lotsOf, mostLines, largestLine, filled}
 use Rattle.sharing.specs.ProRata.{firstShare}
 use Rattle.sharing.proofs.Faults.{total-small}
-use Rattle.sharing.proofs.Lines.{blank, lines-small}
+use Rattle.sharing.proofs.Lines.{blank, Small, lines-small}
 use Rattle.sharing.proofs.Walks.{walk-more, walk-all, end-more, end-all, ahead-more}
 use Rattle.sharing.proofs.RataPasses.{first-write, first-next, first-walk, first-end, given-within}
 use Rattle.sharing.proofs.pro_rata.write_first_shares.Needs as need
@@ -16,14 +16,14 @@ use Rattle.sharing.proofs.pro_rata.write_first_shares.Needs as need
 pub loop-line-holds : need.loop-line-holds
 loop-line-holds c = (refl, refl, lines-small (c .args .lines .now) (c .pre .accepted .small))
 
--- at most 1,000,000 lots times at most 512 lines of that
+-- at most the largest line times the total of as many
 pub first-share-part-requires : need.first-share-part-requires
 first-share-part-requires c κs =
     let n = c .args .total .0 in
     let i = c .loop-line .line-index in
     let x = getD (c .loop-line .lines) i blank in
-    let a = ahead-more (λ line. line .lots .0 ≤ 1000000) (c .loop-line .lines) i blank blank (omega arith) (c .loop-line .inv .2) in
-    omega (arith, mul-le (x .lots .0) n 1000000 512000000 (a .0) (total-small (lotsOf (c .args .lines .now)) n (c .pre .accepted)))
+    let a = ahead-more Small (c .loop-line .lines) i blank blank (omega arith) (c .loop-line .inv .2) in
+    omega (arith, mul-le (x .lots .0) n largestLine (mostLines * largestLine) (a .0) (total-small (lotsOf (c .args .lines .now)) n (c .pre .accepted)))
 
 pub add-given : need.add-given
 add-given c =
@@ -44,7 +44,7 @@ loop-line-again c =
     let y = first-write n s g (getD xs i blank) in
     let w = walk-more (first-write n s) (first-next n s) xs i g blank h in
     let e = end-more (first-write n s) (first-next n s) xs i g y blank h in
-    let a = ahead-more (λ line. line .lots .0 ≤ 1000000) xs i y blank h (c .loop-line .inv .2) in
+    let a = ahead-more Small xs i y blank h (c .loop-line .inv .2) in
     rw (c .first-share-part .ensures) (w ∙ c .loop-line .inv .0, e ∙ c .loop-line .inv .1, a .1)
 
 pub returns : need.returns

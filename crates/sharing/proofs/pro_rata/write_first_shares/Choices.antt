@@ -1,7 +1,7 @@
-use Prim.Native.Nat.{_≤_}
 use mathlib.Core.Path.{_≡_}
 use lib.ListN.{drop}
 use Rattle.std.specs.shelf.Lists.{All}
+use Rattle.sharing.proofs.Lines.{Small}
 use Rattle.sharing.proofs.Walks.{walk, walk-from, walk-end}
 use Rattle.sharing.proofs.RataPasses.{first-write, first-next}
 use Rattle.sharing.proofs.pro_rata.write_first_shares.Given as given
@@ -14,4 +14,4 @@ Inv-loop-line l =
     walk (first-write n s) (first-next n s) 0 (l .entry .lines)) ×
     (walk-end (first-write n s) (first-next n s) (l .given) (drop (l .line-index) (l .lines)) ≡
     walk-end (first-write n s) (first-next n s) 0 (l .entry .lines)) ×
-    All (λ line. line .lots .0 ≤ 1000000) (drop (l .line-index) (l .lines))
+    All Small (drop (l .line-index) (l .lines))
