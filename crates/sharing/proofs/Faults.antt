@@ -127,5 +127,5 @@ seen-all lines i s h e a =
     )
 
 -- a total that can be shared out is at most the largest line times the most lines
-pub total-small : (lots : List ℕ) (n : ℕ) → Accepted lots n → n ≤ (mostLines * largestLine)
+pub total-small : (lots : List ℕ) (n : ℕ) → Accepted lots n → n ≤ mostLines * largestLine
 total-small lots n a = omega (arith, a .few, a .reached, sumBy-le (λ x. x) largestLine lots (a .small))

@@ -1,16 +1,15 @@
 -- What sharing pro rata gives.
-use Prim.Native.Nat.{ℕ, zero, suc, _+_, _-_, _*_, _/_, _≤_, _<_, min}
-use mathlib.Core.Path.{_≡_, refl, sym, ap, _∙_}
+use Prim.Native.Nat.{ℕ, _+_, _-_, _*_, _/_, _≤_, _<_, min}
+use mathlib.Core.Path.{_≡_, refl, ap, _∙_}
 use mathlib.Core.List.{List, [], _∷_, map}
 use mathlib.Core.Logic.{⊎-elim}
 use native.Mathlib.Omega.{arith}
-use native.Mathlib.Nat.{mul-comm, mul-add, add-mul, mul-zero, zero-mul, mul-le-mul-left, mul-le-mul-right, le-of-mul-le-mul-left, mul-div-le, lt-mul-div-succ, div-le-of-le-mul, div-zero}
-use lib.Dec.{eqb, ltb}
+use native.Mathlib.Nat.{mul-comm, mul-add, add-mul, mul-zero, zero-mul, mul-le-mul-left, le-of-mul-le-mul-left, mul-div-le, lt-mul-div-succ, div-le-of-le-mul, div-zero}
 use lib.ListN.{length}
 use Rattle.std.specs.shelf.Lists.{sum, Each}
 use Rattle.std.proofs.shelf.Lists.{length-map}
 use Rattle.std.proofs.shelf.Sums.{sumBy-cons}
-use Rattle.std.proofs.shelf.Tests.{cases-lt, lt-ltb, le-ltb, eqb-true, ne-eqb}
+use Rattle.std.proofs.shelf.Tests.{cases-lt, lt-ltb}
 use Rattle.std.proofs.shelf.Ways.{eqb-tells, tells}
 use Rattle.sharing.specs.ByTime.{byTime}
 use Rattle.sharing.specs.ProRata.{firstShare, firstShares, roomFor, linewise, toppedUp, proRata}
@@ -24,7 +23,7 @@ first-is n s x =
     (λ no′. rw (no′ .0))
     (eqb-tells s 0)
 
--- a first share is within the line's lots, and s times it within lots times total
+-- a first share is within the line's lots, and the sum of lots times it within lots times total
 first-within : (n s x : ℕ) → n ≤ s → firstShare n s x ≤ x
 first-within n s x h = rw first-is (div-le-of-le-mul s (omega (arith, mul-le-mul-left x h, mul-comm x s)))
 
@@ -33,18 +32,15 @@ first-below n s x = rw first-is (mul-div-le (x * n) s)
 
 -- with the room it reaches that
 first-near : (n s x : ℕ) → n ≤ s → 0 < s → x * n ≤ s * (firstShare n s x + roomFor x (firstShare n s x))
-first-near n s x h p =
-    ⊎-elim
-    (λ lt. let e = lt-ltb (firstShare n s x) x lt in
-    rw (e, first-is) (omega (arith, lt-mul-div-succ (x * n) p)))
-    (λ le. omega (
-      arith,
-      mul-add s (firstShare n s x) (roomFor x (firstShare n s x)),
-      mul-le-mul-left s le,
-      mul-comm x s,
-      mul-le-mul-left x h,
-    ))
-    (cases-lt (firstShare n s x) x)
+first-near n s x h p = ⊎-elim one none (cases-lt (firstShare n s x) x)
+  where
+    one : firstShare n s x < x → x * n ≤ s * (firstShare n s x + roomFor x (firstShare n s x))
+    one l = let e = lt-ltb (firstShare n s x) x l in rw (e, first-is) (omega (arith, lt-mul-div-succ (x * n) p))
+
+    none : x ≤ firstShare n s x → x * n ≤ s * (firstShare n s x + roomFor x (firstShare n s x))
+    none l =
+        let a = mul-add s (firstShare n s x) (roomFor x (firstShare n s x)) in
+        omega (arith, a, mul-le-mul-left s l, mul-comm x s, mul-le-mul-left x h)
 
 -- the same of their sums
 sum-below : (n s : ℕ) (xs : List ℕ) → s * sum (map (firstShare n s) xs) ≤ sum xs * n
@@ -80,34 +76,37 @@ sum-near n s (x ∷ xs) h p =
       sum-near n s xs h p,
     ))
 
+-- where there are no lots, nothing is given
 sum-none : (n : ℕ) (xs : List ℕ) → sum (map (firstShare n 0) xs) ≡ 0
 sum-none n [] = refl
 sum-none n (x ∷ xs) = sum-none n xs
 
--- the first shares leave a rest for which there is room
+-- the first shares are within the total
 pub first-shares-fit : (lots : List ℕ) (n : ℕ) → n ≤ sum lots → sum (firstShares lots n) ≤ n
-first-shares-fit lots n h =
-    ⊎-elim
-    (λ p.
-    let b = sum-below n (sum lots) lots in
-    le-of-mul-le-mul-left {k = sum lots} (b) p)
-    (λ z.
-    let e : sum lots ≡ 0 = omega arith in
-    let s = sum-none n lots in
-    omega (arith, ap (λ k. sum (map (firstShare n k) lots)) e))
-    (cases-lt 0 (sum lots))
+first-shares-fit lots n h = ⊎-elim some none (cases-lt 0 (sum lots))
+  where
+    some : 0 < sum lots → sum (firstShares lots n) ≤ n
+    some p = le-of-mul-le-mul-left {k = sum lots} (sum-below n (sum lots) lots) p
 
+    none : sum lots ≤ 0 → sum (firstShares lots n) ≤ n
+    none z =
+        let e : sum lots ≡ 0 = omega arith in
+        omega (arith, sum-none n lots, ap (λ k. sum (map (firstShare n k) lots)) e)
+
+-- and the lines have room for the rest
 pub rest-has-room :
     (lots : List ℕ) (n : ℕ) → n ≤ sum lots →
     n - sum (firstShares lots n) ≤ sum (linewise roomFor lots (firstShares lots n))
-rest-has-room lots n h =
-    ⊎-elim
-    (λ p.
-    let b : sum lots * n ≤ sum lots * (sum (firstShares lots n) + sum (linewise roomFor lots (firstShares lots n))) = sum-near n (sum lots) lots h p in
-    let a = le-of-mul-le-mul-left {m = n} {k = sum lots} b p in
-    omega arith)
-    (λ z. omega arith)
-    (cases-lt 0 (sum lots))
+rest-has-room lots n h = ⊎-elim some none (cases-lt 0 (sum lots))
+  where
+    some : 0 < sum lots → n - sum (firstShares lots n) ≤ sum (linewise roomFor lots (firstShares lots n))
+    some p =
+        let b = sum-near n (sum lots) lots h p in
+        let a = le-of-mul-le-mul-left {m = n} {k = sum lots} b p in
+        omega arith
+
+    none : sum lots ≤ 0 → n - sum (firstShares lots n) ≤ sum (linewise roomFor lots (firstShares lots n))
+    none z = omega arith
 
 -- topping up keeps shares within the lots
 room-fits : (x y : ℕ) → y ≤ x → y + roomFor x y ≤ x
@@ -136,13 +135,16 @@ topped-sum (x ∷ xs) (y ∷ ys) r e =
     let c = sumBy-cons (λ k. k) m (byTime (linewise roomFor xs ys) (r - m)) in
     omega (arith, a, b, c, i)
 
+-- no first share is above its lots
 firsts-within : (n s : ℕ) (xs : List ℕ) → n ≤ s → Each _≤_ (map (firstShare n s) xs) xs
 firsts-within n s [] h = tt
 firsts-within n s (x ∷ xs) h = (first-within n s x h, firsts-within n s xs h)
 
 -- no share is above its lots
 pub rata-within : (lots : List ℕ) (n : ℕ) → n ≤ sum lots → Each _≤_ (proRata lots n) lots
-rata-within lots n h = topped-within lots (firstShares lots n) (n - sum (firstShares lots n)) (firsts-within n (sum lots) lots h)
+rata-within lots n h =
+    let firsts = firstShares lots n in
+    topped-within lots firsts (n - sum firsts) (firsts-within n (sum lots) lots h)
 
 -- the shares make the total
 pub rata-whole : (lots : List ℕ) (n : ℕ) → n ≤ sum lots → sum (proRata lots n) ≡ n

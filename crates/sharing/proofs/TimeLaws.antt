@@ -1,12 +1,10 @@
 -- What sharing by time gives.
-use Prim.Native.Nat.{ℕ, _+_, _-_, _≤_, min}
+use Prim.Native.Nat.{ℕ, _-_, _≤_, min}
 use mathlib.Core.Path.{_≡_, refl, ap}
 use mathlib.Core.List.{List, [], _∷_}
 use native.Mathlib.Omega.{arith}
-use lib.ListN.{length}
 use Rattle.std.specs.shelf.Lists.{sum, Each}
 use Rattle.std.proofs.shelf.Sums.{sumBy-cons}
-use Rattle.std.proofs.shelf.Elements.{length-each}
 use Rattle.sharing.specs.declared.shares.Share.{Share}
 use Rattle.sharing.specs.Shares.{lotsOf, filled}
 use Rattle.sharing.specs.ByTime.{byTime}
@@ -33,6 +31,7 @@ time-write left line = record { lots = line .lots; share = record { 0 = min (lin
 abbrev pub time-next : ℕ → Share → ℕ
 time-next left line = left - min (line .lots .0) left
 
+-- the whole pass
 pub time-walk : (lines : List Share) (n : ℕ) → walk time-write time-next n lines ≡ filled lines (byTime (lotsOf lines) n)
 time-walk [] n = refl
 time-walk (x ∷ xs) n = ap (λ zs. time-write n x ∷ zs) (time-walk xs (time-next n x))

@@ -5,16 +5,16 @@ use Rattle.sharing.specs.ByTime.{byTime}
 use Rattle.sharing.specs.ProRata.{proRata}
 
 -- first shares of 2/3, so 0, and the two lots go to the two earliest
-abbrev pub ThirdsGoToTheEarliest : Type 0
-ThirdsGoToTheEarliest = proRata (1 ∷ (1 ∷ (1 ∷ []))) 2 ≡ 1 ∷ (1 ∷ (0 ∷ []))
+abbrev pub EvenZerosAreToppedUp : Type 0
+EvenZerosAreToppedUp = proRata (1 ∷ (1 ∷ (1 ∷ []))) 2 ≡ 1 ∷ (1 ∷ (0 ∷ []))
 
 -- first shares of 16.5, 9.9 and 6.6, and the two lots that rounding down leaves go to the two earliest
-abbrev pub HalvesGoToTheEarliest : Type 0
-HalvesGoToTheEarliest = proRata (50 ∷ (30 ∷ (20 ∷ []))) 33 ≡ 17 ∷ (10 ∷ (6 ∷ []))
+abbrev pub RoundingGoesToTheEarliest : Type 0
+RoundingGoesToTheEarliest = proRata (50 ∷ (30 ∷ (20 ∷ []))) 33 ≡ 17 ∷ (10 ∷ (6 ∷ []))
 
 -- the first line takes its 50 of 60, the second the 10 that are left
-abbrev pub TheLastGetsNothing : Type 0
-TheLastGetsNothing = byTime (50 ∷ (30 ∷ (20 ∷ []))) 60 ≡ 50 ∷ (10 ∷ (0 ∷ []))
+abbrev pub ByTimeTheLastGetsNothing : Type 0
+ByTimeTheLastGetsNothing = byTime (50 ∷ (30 ∷ (20 ∷ []))) 60 ≡ 50 ∷ (10 ∷ (0 ∷ []))
 
 abbrev pub WorkedShares : Type 0
-WorkedShares = ThirdsGoToTheEarliest × HalvesGoToTheEarliest × TheLastGetsNothing
+WorkedShares = EvenZerosAreToppedUp × RoundingGoesToTheEarliest × ByTimeTheLastGetsNothing

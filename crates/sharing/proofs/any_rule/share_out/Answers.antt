@@ -1,5 +1,4 @@
 use native.Mathlib.Omega.{arith}
-use mathlib.Core.Path.{ap}
 use Rattle.sharing.specs.Shares.{lotsOf, faultIn}
 use Rattle.sharing.proofs.Faults.{answered, no-fault}
 use Rattle.sharing.proofs.Calls.{answer-ok, adds-up}
@@ -13,7 +12,8 @@ sum-of-shares-requires g c κs =
     let a = answer-ok lots n tt (c .in-Continue-share .ensures tt .answer) in
     let e = g .R·SharingRule·met .each rule lots n a in
     let w = g .R·SharingRule·met .whole rule lots n a in
-    omega (arith, adds-up (g .R·SharingRule .shares rule) (c .args .lines .now) (c .share .last .lines) n a e w (c .share .ensures .after))
+    let s = adds-up (g .R·SharingRule .shares rule) (c .args .lines .now) (c .share .last .lines) n a e w in
+    omega (arith, s (c .share .ensures .after))
 
 pub returns : need.returns
 returns g c =
@@ -23,8 +23,9 @@ returns g c =
     let a = answer-ok lots n tt (c .in-Continue-share .ensures tt .answer) in
     let e = g .R·SharingRule·met .each rule lots n a in
     let w = g .R·SharingRule·met .whole rule lots n a in
-    let s = adds-up (g .R·SharingRule .shares rule) (c .args .lines .now) (c .share .last .lines) n a e w (c .share .ensures .after) in
+    let s = adds-up (g .R·SharingRule .shares rule) (c .args .lines .now) (c .share .last .lines) n a e w in
     record {
-      answer = rw (c .sum-of-shares .ensures, s) (answered (faultIn lots n) (c .args .total) (no-fault lots n a));
+      answer =
+          rw (c .sum-of-shares .ensures, s (c .share .ensures .after)) (answered (faultIn lots n) (c .args .total) (no-fault lots n a));
       after = c .share .ensures .after;
     }

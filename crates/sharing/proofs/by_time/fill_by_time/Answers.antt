@@ -1,4 +1,4 @@
-use Prim.Native.Nat.{_≤_, _<_}
+use Prim.Native.Nat.{_≤_}
 use native.Mathlib.Omega.{arith}
 use mathlib.Core.Path.{sym, _∙_}
 use lib.ListN.{length}
@@ -9,9 +9,9 @@ use Rattle.sharing.proofs.by_time.fill_by_time.Needs as need
 
 pub loop-line-again : need.loop-line-again
 loop-line-again c =
-    let m = walk-more time-write time-next (c .loop-line .lines) (c .loop-line .line-index) (c .loop-line .left) blank (omega arith) in
-    let e = c .min-part .ensures in
-    rw e (m ∙ c .loop-line .inv)
+    let lines = c .loop-line .lines in
+    let m = walk-more time-write time-next lines (c .loop-line .line-index) (c .loop-line .left) blank (omega arith) in
+    rw (c .min-part .ensures) (m ∙ c .loop-line .inv)
 
 pub returns : need.returns
 returns c =

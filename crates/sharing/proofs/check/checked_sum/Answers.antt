@@ -7,7 +7,7 @@ use Rattle.std.proofs.shelf.Sums.{sumBy-more, sumBy-le}
 use Rattle.std.proofs.shelf.Elements.{all-more}
 use Rattle.sharing.proofs.Lines.{blank, Small}
 use Rattle.sharing.specs.declared.fault.SharingFault.the-variants.{TooManyLines, LineTooLarge, TotalTooLarge}
-use Rattle.sharing.specs.Shares.{lotsOf, largestLine, Accepted}
+use Rattle.sharing.specs.Shares.{lotsOf, largestLine}
 use Rattle.sharing.proofs.Faults.{refused, answered, fault-many, fault-large, fault-total, no-fault, seen-all}
 use Rattle.sharing.proofs.check.checked_sum.Needs as need
 
@@ -25,7 +25,7 @@ returns-then-line-gt-LARGEST-LINE c =
     let over = c .if-line-gt-LARGEST-LINE .taken in
     refused _ LineTooLarge _ (fault-large lines (c .args .total .0) i blank (omega arith) (c .loop-line-test .taken) over)
 
--- what is added up so far is at most 1,000,000 a line
+-- what is added up so far is at most the largest line's lots for each
 pub add-sum : need.add-sum
 add-sum c =
     let lines = take (c .loop-line .line-index) (c .args .lines .now) in
@@ -56,6 +56,5 @@ returns c =
     let h = c .loop-line-test .left in
     let a = seen-all lines (c .loop-line .line-index) (c .loop-line .sum) h (c .loop-line .inv .0) (c .loop-line .inv .1) in
     let l = length-map lines (λ line. line .lots .0) in
-    let can : Accepted (lotsOf lines) (c .args .total .0) =
-    record { few = omega arith; small = a .1; reached = omega (arith, a .0) } in
-    rw (a .0) (answered _ _ (no-fault (lotsOf lines) (c .args .total .0) can))
+    let n = no-fault (lotsOf lines) (c .args .total .0) (record { few = omega arith; small = a .1; reached = omega (arith, a .0) }) in
+    rw (a .0) (answered _ _ n)

@@ -16,22 +16,23 @@ use Rattle.sharing.proofs.pro_rata.write_first_shares.Needs as need
 pub loop-line-holds : need.loop-line-holds
 loop-line-holds c = (refl, refl, lines-small (c .args .lines .now) (c .pre .accepted .small))
 
--- at most the largest line times the total of as many
+-- a line's lots, times the total of as many lines as there may be, fit 64 bits
 pub first-share-part-requires : need.first-share-part-requires
 first-share-part-requires c κs =
     let n = c .args .total .0 in
     let i = c .loop-line .line-index in
-    let x = getD (c .loop-line .lines) i blank in
+    let x = getD (c .loop-line .lines) i blank .lots .0 in
     let a = ahead-more Small (c .loop-line .lines) i blank blank (omega arith) (c .loop-line .inv .2) in
-    omega (arith, mul-le (x .lots .0) n largestLine (mostLines * largestLine) (a .0) (total-small (lotsOf (c .args .lines .now)) n (c .pre .accepted)))
+    let t = total-small (lotsOf (c .args .lines .now)) n (c .pre .accepted) in
+    omega (arith, mul-le x n largestLine (mostLines * largestLine) (a .0) t)
 
 pub add-given : need.add-given
 add-given c =
-    let g =
-    given-within (c .args .total .0) (c .args .offered .0) (c .loop-line .lines) (c .args .lines .now)
-    (c .loop-line .line-index) (c .loop-line .given) (omega arith) (c .pre .all) (c .pre .accepted .reached)
-    (c .loop-line .inv .1) in
-    omega (arith, g, c .first-share-part .ensures)
+    let n = c .args .total .0 in
+    let s = c .args .offered .0 in
+    let i = c .loop-line .line-index in
+    let w = given-within n s (c .loop-line .lines) (c .args .lines .now) i (c .loop-line .given) (omega arith) in
+    omega (arith, w (c .pre .all) (c .pre .accepted .reached) (c .loop-line .inv .1), c .first-share-part .ensures)
 
 pub loop-line-again : need.loop-line-again
 loop-line-again c =

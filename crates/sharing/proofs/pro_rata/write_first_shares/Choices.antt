@@ -6,6 +6,7 @@ use Rattle.sharing.proofs.Walks.{walk, walk-from, walk-end}
 use Rattle.sharing.proofs.RataPasses.{first-write, first-next}
 use Rattle.sharing.proofs.pro_rata.write_first_shares.Given as given
 
+-- the pass so far, what it has given, and the lines ahead that are not too large
 abbrev pub Inv-loop-line : given.InvT-loop-line
 Inv-loop-line l =
     let n = l .total .0 in

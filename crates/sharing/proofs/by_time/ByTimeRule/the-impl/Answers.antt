@@ -1,7 +1,7 @@
-use Rattle.std.proofs.shelf.Elements.{length-each}
-use Rattle.sharing.proofs.TimeLaws.{time-within, time-whole}
-use Rattle.sharing.specs.ByTime.{byTime}
 use Prim.Native.Nat.{_≤_}
+use Rattle.std.proofs.shelf.Elements.{length-each}
+use Rattle.sharing.specs.ByTime.{byTime}
+use Rattle.sharing.proofs.TimeLaws.{time-within, time-whole}
 use Rattle.sharing.proofs.by_time.ByTimeRule.the-impl.Needs as need
 
 pub each-law : need.each-law

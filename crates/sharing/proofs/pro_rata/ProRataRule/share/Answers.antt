@@ -26,7 +26,6 @@ returns c =
     let n = c .args .total .0 in
     let p = check-passed (lotsOf lines) n (c .in-Continue-offered .offered) (c .in-Continue-offered .ensures tt) in
     let w = c .write-first-shares-given in
-    let b =
-    both-passes lines (w .last .lines) (c .hand-out .last .lines) n (w .result .0) (p .2 .reached) (w .ensures .after)
-    (w .ensures .answer) (c .hand-out .ensures) in
-    record { answer = answered _ tt (p .0); after = b ∙ sym (written proRata lines n (p .0)) }
+    let b = both-passes lines (w .last .lines) (c .hand-out .last .lines) n (w .result .0) (p .2 .reached) in
+    let e = b (w .ensures .after) (w .ensures .answer) (c .hand-out .ensures) in
+    record { answer = answered _ tt (p .0); after = e ∙ sym (written proRata lines n (p .0)) }
