@@ -1,0 +1,4 @@
+//! Runs of the layers on cases worked out by hand.
+
+#[cfg(test)]
+mod sharing;

@@ -1,0 +1,5 @@
+pub mod ByTime
+pub mod ProRata
+pub mod Refusals
+pub mod Shares
+pub mod Worked
