@@ -1,10 +1,9 @@
 -- Orders by keys are lawful.
-use Prim.Native.Nat.{ℕ, _≤_, _<_}
-use mathlib.Core.Path.{_≡_, refl, sym, _∙_}
-use mathlib.Core.Bool.{Bool, true, false, cond}
+use Prim.Native.Nat.{ℕ}
+use mathlib.Core.Path.{_≡_, sym, _∙_}
+use mathlib.Core.Bool.{Bool, false}
 use mathlib.Core.Logic.{inl, inr}
 use native.Mathlib.Omega.{arith}
-use lib.Dec.{ltb}
 use Rattle.std.proofs.shelf.Tests.{ltb-true, ltb-false, le-ltb, cases-bool, both-ways, cond-true, cond-false}
 use Rattle.ordered_list.specs.Order.{rankAlike}
 use Rattle.ordered_list.specs.Keys.{upward, downward, thenBy}

@@ -1,8 +1,7 @@
 -- What the laws of an order come to.
-use mathlib.Core.Path.{_≡_, refl}
-use mathlib.Core.Bool.{Bool, true, false, not, _&&_}
+use mathlib.Core.Path.{_≡_}
+use mathlib.Core.Bool.{Bool, true, false, not}
 use mathlib.Core.Logic.{inl, inr}
-use native.Mathlib.Omega.{arith}
 use Rattle.std.proofs.shelf.Tests.{cases-bool, both-ways, and-parts, and-from, not-true, not-from-false}
 use Rattle.ordered_list.specs.Order.{rankAlike}
 

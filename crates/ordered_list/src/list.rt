@@ -11,7 +11,7 @@ use crate::edit::insert_into;
 use crate::edit::remove_from;
 
 /// An ordered list: the first `len` lines of memory that the caller lends, or all of it where `len` passes its end.
-/// A list that is in order stays in order.
+/// A list that is in order stays in order. It is not `Drop`: `done` takes its length back, so that none is forgotten.
 pub struct OrderedList<'a, T> {
     lines: &'a mut [T],
     len: usize,
