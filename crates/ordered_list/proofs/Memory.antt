@@ -38,6 +38,7 @@ list-insert after len memory x = elim (cases-lt len (length memory)) [
   | inr h ↦ simp (le-ltb len (length memory) h)
 ]
 
+-- with room, the list has the line
 pub list-insert-room : {X : Type 0} (after : X → X → Bool) (len : ℕ) (memory : List X) (x : X) → len < length memory →
     listOf (len + 1) (insertMemory after len memory x) ≡ placed after x (listOf len memory)
 list-insert-room after len memory x h =
@@ -45,6 +46,7 @@ list-insert-room after len memory x h =
     let n = insert-room after len memory x h .2 in
     ap (λ k. listOf k (insertMemory after len memory x)) n ∙ l ∙ cond-true _ _ _ (lt-ltb len (length memory) h)
 
+-- insert keeps the order
 pub order-insert : {X : Type 0} (after : X → X → Bool) → Lawful after → (len : ℕ) (memory : List X) (x : X) →
     inOrder after (listOf len memory) ≡ true → inOrder after (insertList after len memory x) ≡ true
 order-insert after l len memory x o = elim (cases-lt len (length memory)) [
@@ -63,6 +65,7 @@ clamped len memory = elim (cases-lt len (length memory)) [
       )
 ]
 
+-- the list by its own length
 pub list-whole : {X : Type 0} (len : ℕ) (memory : List X) → take (lengthOf len memory) memory ≡ listOf len memory
 list-whole len memory = clamped len memory .0
 
@@ -101,6 +104,7 @@ list-remove len memory at = elim (cases-lt at (lengthOf len memory)) [
   | inr h ↦ let r = remove-none len memory at h in cc (r .1, r .2, r .3)
 ]
 
+-- remove keeps the order
 pub order-remove : {X : Type 0} (after : X → X → Bool) (len : ℕ) (memory : List X) (at : ℕ) →
     inOrder after (listOf len memory) ≡ true → inOrder after (removeList len memory at) ≡ true
 order-remove after len memory at o = removed-in-order after (take len memory) at o

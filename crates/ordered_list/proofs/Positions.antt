@@ -10,6 +10,7 @@ use mathlib.Core.Logic.{inl, inr}
 use Rattle.std.proofs.shelf.Tests.{and-left, and-right, and-parts, and-cases, both-ways}
 use Rattle.ordered_list.specs.Order.{allAfter, positionOf, BehindTheRest}
 
+-- the position lies within the list, or just behind it
 pub position-le : {X : Type 0} (after : X → X → Bool) (x : X) (ys : List X) → positionOf after x ys ≤ length ys
 position-le after x [] = omega arith
 position-le after x (y ∷ ys) =
