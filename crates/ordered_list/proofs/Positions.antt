@@ -8,7 +8,7 @@ use lib.ListN.{length, drop, getD}
 use Rattle.std.proofs.shelf.Lists.{at-drop-more}
 use mathlib.Core.Logic.{inl, inr}
 use Rattle.std.proofs.shelf.Tests.{and-left, and-right, and-parts, and-cases, both-ways}
-use Rattle.ordered_list.specs.Order.{allAfter, positionOf, BehindTheRest}
+use Rattle.ordered_list.specs.Order.{allAfter, positionOf, RightPosition}
 
 -- the position lies within the list, or just behind it
 pub position-le : {X : Type 0} (after : X → X → Bool) (x : X) (ys : List X) → positionOf after x ys ≤ length ys
@@ -90,8 +90,8 @@ front-not after x (y ∷ ys) (suc k) d e =
     elim (allAfter after x (y ∷ ys)) as P [ true ↦ λ q. absurd (omega arith) | false ↦ λ q. front-not after x ys k d (omega arith) ] e
 
 -- the position is what it is said to be
-pub position-behind-rest : {X : Type 0} (after : X → X → Bool) (x : X) (ys : List X) → BehindTheRest after x ys (positionOf after x ys)
-position-behind-rest after x ys = record {
+pub position-right : {X : Type 0} (after : X → X → Bool) (x : X) (ys : List X) → RightPosition after x ys (positionOf after x ys)
+position-right after x ys = record {
   within = position-le after x ys;
   behind = rest-after after x ys;
   front = λ d p. front-not after x ys (positionOf after x ys - 1) d (omega arith);

@@ -3,7 +3,7 @@ ghost use mathlib.Core.Bool.{true};
 ghost use denote.Ref.{name};
 ghost use lib.ListN.{length};
 ghost use Rattle.std.specs.Vec.{made};
-ghost use Rattle.ordered_list.specs.Order.{inOrder, BehindTheRest};
+ghost use Rattle.ordered_list.specs.Order.{inOrder, RightPosition};
 ghost use Rattle.ordered_list.specs.Lists.{listOf, lengthOf, insertAnswer, insertList, insertMemory, insertLen, removeAnswer, removeList, removeMemory, removeLen};
 use crate::ListFault;
 use crate::Ranked;
@@ -57,7 +57,7 @@ impl<'a, T: Ranked + Copy> OrderedList<'a, T> {
         ensures same { λ _. ⌜ name (now (self .exit) .lines) ≡ name (now (self .entry) .lines) ⌝ }
         ensures long { λ _. ⌜ length (now (now (self .exit) .lines)) ≡ length (now (now (self .entry) .lines)) ⌝ }
         ensures answer { λ r. ⌜ r ≡ insertAnswer (T·Ranked .after) (now (self .entry) .len) (now (now (self .entry) .lines)) line ⌝ }
-        ensures position { λ r. ⌜ made r (BehindTheRest (T·Ranked .after) line (listOf (now (self .entry) .len) (now (now (self .entry) .lines)))) ⌝ }
+        ensures position { λ r. ⌜ made r (RightPosition (T·Ranked .after) line (listOf (now (self .entry) .len) (now (now (self .entry) .lines)))) ⌝ }
         ensures list { λ _. ⌜ listOf (now (self .exit) .len) (now (now (self .exit) .lines)) ≡ insertList (T·Ranked .after) (now (self .entry) .len) (now (now (self .entry) .lines)) line ⌝ }
         ensures memory { λ _. ⌜ now (now (self .exit) .lines) ≡ insertMemory (T·Ranked .after) (now (self .entry) .len) (now (now (self .entry) .lines)) line ⌝ }
         ensures count { λ _. ⌜ now (self .exit) .len ≡ insertLen (now (self .entry) .len) (now (now (self .entry) .lines)) ⌝ }
