@@ -1,4 +1,6 @@
 //! Runs of the layers on cases worked out by hand.
 
 #[cfg(test)]
+mod ordered_list;
+#[cfg(test)]
 mod sharing;

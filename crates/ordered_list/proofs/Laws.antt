@@ -1,8 +1,7 @@
 -- What the laws of an order come to.
-use mathlib.Core.Path.{_≡_, refl}
-use mathlib.Core.Bool.{Bool, true, false, not, _&&_}
+use mathlib.Core.Path.{_≡_}
+use mathlib.Core.Bool.{Bool, true, false, not}
 use mathlib.Core.Logic.{inl, inr}
-use native.Mathlib.Omega.{arith}
 use Rattle.std.proofs.shelf.Tests.{cases-bool, both-ways, and-parts, and-from, not-true, not-from-false}
 use Rattle.ordered_list.specs.Order.{rankAlike}
 
@@ -12,6 +11,7 @@ pub record Lawful {X : Type 0} (after : X → X → Bool) : Type 0 where
   pub chain : (x y z : X) → after x y ≡ true → after y z ≡ true → after x z ≡ true
   pub alike : (x y z : X) → rankAlike after x y ≡ true → rankAlike after y z ≡ true → rankAlike after x z ≡ true
 
+-- to rank alike is that neither ranks after the other
 pub alike-from : {X : Type 0} (after : X → X → Bool) (x y : X) → after x y ≡ false → after y x ≡ false → rankAlike after x y ≡ true
 alike-from after x y p q = and-from (not (after x y)) (not (after y x)) (not-from-false (after x y) p) (not-from-false (after y x) q)
 
@@ -35,7 +35,7 @@ not-after-chain after l x y z p q =
       ]
     ]
 
--- Two laws give the three: the others follow.
+-- an order is lawful if no two lines rank after each other, and not to rank after carries along a chain
 pub lawful-from : {X : Type 0} (after : X → X → Bool) →
     ((x y : X) → after x y ≡ true → after y x ≡ false) →
     ((x y z : X) → after x y ≡ false → after y z ≡ false → after x z ≡ false) → Lawful after

@@ -1,4 +1,4 @@
-pub mod Edits
+mod Edits
 pub mod Keys
 pub mod Laws
 pub mod Memory

@@ -1,22 +1,21 @@
 -- What insert and remove leave of the list, read off the whole memory and the length.
 use Prim.Native.Nat.{ℕ, suc, _+_, _-_, _≤_, _<_, min}
-use mathlib.Core.Path.{_≡_, refl, sym, ap, subst, _∙_}
-use mathlib.Core.List.{List, [], _∷_, _++_}
-use mathlib.Core.Bool.{Bool, true, false, cond}
+use mathlib.Core.Path.{_≡_, refl, sym, ap, _∙_}
+use mathlib.Core.List.{List, _∷_, _++_}
+use mathlib.Core.Bool.{Bool, true}
 use mathlib.Core.Logic.{inl, inr}
 use native.Mathlib.Omega.{arith}
-use lib.Dec.{ltb}
 use lib.ListN.{length, take, drop, getD}
-use Rattle.std.specs.Holes.{inserted, removed}
+use Rattle.std.specs.Holes.{removed}
 use Rattle.std.specs.Runs.{nth}
 use Rattle.std.specs.declared.option.Option.the-variants.{Some, None}
 use Rattle.std.specs.declared.result.Result.the-variants.{Ok}
-use Rattle.std.proofs.shelf.Lists.{length-take, length-take-le, length-append, length-drop, take-at, take-all, drop-all, append-nil, take-append-drop, getD-take}
+use Rattle.std.proofs.shelf.Lists.{length-take, length-take-le, take-at, take-all, drop-all, append-nil, take-append-drop, getD-take}
 use Rattle.std.proofs.shelf.Edits.{length-removed}
 use Rattle.std.proofs.shelf.Maps.{nth-getD, nth-past}
-use Rattle.std.proofs.shelf.Tests.{cases-lt, lt-ltb, le-ltb, cond-below, cond-above}
+use Rattle.std.proofs.shelf.Tests.{cases-lt, lt-ltb, le-ltb, cond-below, cond-above, cond-true}
 use Rattle.ordered_list.specs.Order.{positionOf, placed, inOrder}
-use Rattle.ordered_list.specs.Lists.{listOf, lengthOf, insertAnswer, insertList, insertMemory, insertLen, removeList, removeMemory, removeLen}
+use Rattle.ordered_list.specs.Lists.{listOf, lengthOf, insertAnswer, insertList, insertMemory, insertLen, removeAnswer, removeList, removeMemory, removeLen}
 use Rattle.ordered_list.proofs.Laws.{Lawful}
 use Rattle.ordered_list.proofs.Placed.{length-placed}
 use Rattle.ordered_list.proofs.Sorted.{placed-in-order, removed-in-order}
@@ -39,6 +38,15 @@ list-insert after len memory x = elim (cases-lt len (length memory)) [
   | inr h ↦ simp (le-ltb len (length memory) h)
 ]
 
+-- with room, the list has the line
+pub list-insert-room : {X : Type 0} (after : X → X → Bool) (len : ℕ) (memory : List X) (x : X) → len < length memory →
+    listOf (len + 1) (insertMemory after len memory x) ≡ placed after x (listOf len memory)
+list-insert-room after len memory x h =
+    let l = list-insert after len memory x in
+    let n = insert-room after len memory x h .2 in
+    ap (λ k. listOf k (insertMemory after len memory x)) n ∙ l ∙ cond-true _ _ _ (lt-ltb len (length memory) h)
+
+-- insert keeps the order
 pub order-insert : {X : Type 0} (after : X → X → Bool) → Lawful after → (len : ℕ) (memory : List X) (x : X) →
     inOrder after (listOf len memory) ≡ true → inOrder after (insertList after len memory x) ≡ true
 order-insert after l len memory x o = elim (cases-lt len (length memory)) [
@@ -57,6 +65,7 @@ clamped len memory = elim (cases-lt len (length memory)) [
       )
 ]
 
+-- the list by its own length
 pub list-whole : {X : Type 0} (len : ℕ) (memory : List X) → take (lengthOf len memory) memory ≡ listOf len memory
 list-whole len memory = clamped len memory .0
 
@@ -80,6 +89,10 @@ remove-some len memory at line h r =
     let c = clamped len memory in
     (n, simp (n, c .0, c .1), cond-below at (lengthOf len memory) _ _ h)
 
+-- what remove answered stood at the position
+pub removed-line : {X : Type 0} (len : ℕ) (memory : List X) (at : ℕ) (x : X) → removeAnswer len memory at ≡ Ok x → nth (listOf len memory) at ≡ Some x
+removed-line len memory at x e = grind arith
+
 -- the list after remove stands in front of the memory after it
 pub list-remove : {X : Type 0} (len : ℕ) (memory : List X) (at : ℕ) →
     listOf (removeLen len memory at) (removeMemory len memory at) ≡ removeList len memory at
@@ -91,6 +104,7 @@ list-remove len memory at = elim (cases-lt at (lengthOf len memory)) [
   | inr h ↦ let r = remove-none len memory at h in cc (r .1, r .2, r .3)
 ]
 
+-- remove keeps the order
 pub order-remove : {X : Type 0} (after : X → X → Bool) (len : ℕ) (memory : List X) (at : ℕ) →
     inOrder after (listOf len memory) ≡ true → inOrder after (removeList len memory at) ≡ true
 order-remove after len memory at o = removed-in-order after (take len memory) at o

@@ -1,15 +1,16 @@
 -- The position behind all lines that do not rank after a line.
 use Prim.Native.Nat.{ℕ, zero, suc, _+_, _-_, _≤_, _<_}
-use mathlib.Core.Path.{_≡_, refl, sym, ap, subst, _∙_}
+use mathlib.Core.Path.{_≡_, refl, sym, ap, _∙_}
 use mathlib.Core.List.{List, [], _∷_}
-use mathlib.Core.Bool.{Bool, true, false, cond, _&&_}
+use mathlib.Core.Bool.{Bool, true, false, cond}
 use native.Mathlib.Omega.{arith}
 use lib.ListN.{length, drop, getD}
 use Rattle.std.proofs.shelf.Lists.{at-drop-more}
 use mathlib.Core.Logic.{inl, inr}
-use Rattle.std.proofs.shelf.Tests.{and-left, and-right, and-parts, and-from, cases-bool, both-ways}
-use Rattle.ordered_list.specs.Order.{allAfter, positionOf, BehindTheRest}
+use Rattle.std.proofs.shelf.Tests.{and-left, and-right, and-parts, and-cases, both-ways}
+use Rattle.ordered_list.specs.Order.{allAfter, positionOf, RightPosition}
 
+-- the position lies within the list, or just behind it
 pub position-le : {X : Type 0} (after : X → X → Bool) (x : X) (ys : List X) → positionOf after x ys ≤ length ys
 position-le after x [] = omega arith
 position-le after x (y ∷ ys) =
@@ -79,9 +80,9 @@ front-not after x (y ∷ ys) zero d e =
     let P : Bool → Type 0 = λ b. allAfter after x (y ∷ ys) ≡ b → cond b 0 (suc (positionOf after x ys)) ≡ 1 → after y x ≡ false in
     elim (allAfter after x (y ∷ ys)) as P [
       | true ↦ λ _ q. absurd (omega arith)
-      | false ↦ λ n q. elim (cases-bool (after y x)) [
-        | inr f ↦ f
-        | inl t ↦ absurd (both-ways (allAfter after x (y ∷ ys)) n (and-from (after y x) (allAfter after x ys) t (first-all after x ys (omega arith))))
+      | false ↦ λ n q. elim (and-cases (after y x) (allAfter after x ys) n) [
+        | inl f ↦ f
+        | inr f ↦ absurd (both-ways (allAfter after x ys) f (first-all after x ys (omega arith)))
       ]
     ] refl e
 front-not after x (y ∷ ys) (suc k) d e =
@@ -89,8 +90,8 @@ front-not after x (y ∷ ys) (suc k) d e =
     elim (allAfter after x (y ∷ ys)) as P [ true ↦ λ q. absurd (omega arith) | false ↦ λ q. front-not after x ys k d (omega arith) ] e
 
 -- the position is what it is said to be
-pub position-behind-rest : {X : Type 0} (after : X → X → Bool) (x : X) (ys : List X) → BehindTheRest after x ys (positionOf after x ys)
-position-behind-rest after x ys = record {
+pub position-right : {X : Type 0} (after : X → X → Bool) (x : X) (ys : List X) → RightPosition after x ys (positionOf after x ys)
+position-right after x ys = record {
   within = position-le after x ys;
   behind = rest-after after x ys;
   front = λ d p. front-not after x ys (positionOf after x ys - 1) d (omega arith);

@@ -1,5 +1,5 @@
--- What the calls on an ordered list give. The list is the first len lines of the memory, where len passes
--- the memory's end, all of it.
+-- What the calls on an ordered list give. The list is the first len lines of the memory, or all of it where len
+-- passes the memory's end.
 use Prim.Native.Nat.{ℕ, _+_, _-_, min}
 use mathlib.Core.Bool.{Bool, cond}
 use mathlib.Core.List.{List, _++_}
@@ -15,7 +15,7 @@ use Rattle.ordered_list.specs.declared.fault.ListFault.{ListFault}
 use Rattle.ordered_list.specs.declared.fault.ListFault.the-variants.{Full, NoSuchPosition}
 use Rattle.ordered_list.specs.Order.{positionOf, placed}
 
--- the list
+-- the lines of the list
 abbrev pub listOf : {X : Type 0} → ℕ → List X → List X
 listOf len memory = take len memory
 
@@ -43,6 +43,7 @@ insertList after len memory x = cond (hasRoom len memory) (placed after x (listO
 abbrev pub insertMemory : {X : Type 0} → (X → X → Bool) → ℕ → List X → X → List X
 insertMemory after len memory x = cond (hasRoom len memory) (placed after x (listOf len memory) ++ drop (len + 1) memory) memory
 
+-- its length after insert
 abbrev pub insertLen : {X : Type 0} → ℕ → List X → ℕ
 insertLen len memory = cond (hasRoom len memory) (len + 1) len
 
@@ -58,5 +59,6 @@ removeList len memory at = removed (listOf len memory) at
 abbrev pub removeMemory : {X : Type 0} → ℕ → List X → ℕ → List X
 removeMemory len memory at = removed (listOf len memory) at ++ (linesOf (nth (listOf len memory) at) ++ drop len memory)
 
+-- its length after remove
 abbrev pub removeLen : {X : Type 0} → ℕ → List X → ℕ → ℕ
 removeLen len memory at = cond (hasPosition len memory at) (lengthOf len memory - 1) len

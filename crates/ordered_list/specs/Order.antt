@@ -34,9 +34,9 @@ positionOf after x (y ∷ ys) = cond (allAfter after x (y ∷ ys)) 0 (suc (posit
 abbrev pub placed : {X : Type 0} → (X → X → Bool) → X → List X → List X
 placed after x ys = inserted ys (positionOf after x ys) x
 
--- at is the position behind all of ys that do not rank after x: every line from there on ranks after x,
+-- at is the right position for x in ys, behind all that do not rank after it: every line from there on ranks after x,
 -- and the line just in front of it does not
-pub record BehindTheRest {X : Type 0} (after : X → X → Bool) (x : X) (ys : List X) (at : ℕ) : Type 0 where
+pub record RightPosition {X : Type 0} (after : X → X → Bool) (x : X) (ys : List X) (at : ℕ) : Type 0 where
   pub within : at ≤ length ys
   pub behind : (k : ℕ) (d : X) → at ≤ k → k < length ys → after (getD ys k d) x ≡ true
   pub front : (d : X) → 0 < at → after (getD ys (at - 1) d) x ≡ false

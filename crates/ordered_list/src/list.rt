@@ -3,7 +3,7 @@ ghost use mathlib.Core.Bool.{true};
 ghost use denote.Ref.{name};
 ghost use lib.ListN.{length};
 ghost use Rattle.std.specs.Vec.{made};
-ghost use Rattle.ordered_list.specs.Order.{inOrder, BehindTheRest};
+ghost use Rattle.ordered_list.specs.Order.{inOrder, RightPosition};
 ghost use Rattle.ordered_list.specs.Lists.{listOf, lengthOf, insertAnswer, insertList, insertMemory, insertLen, removeAnswer, removeList, removeMemory, removeLen};
 use crate::ListFault;
 use crate::Ranked;
@@ -11,7 +11,7 @@ use crate::edit::insert_into;
 use crate::edit::remove_from;
 
 /// An ordered list: the first `len` lines of memory that the caller lends, or all of it where `len` passes its end.
-/// A list that is in order stays in order.
+/// A list that is in order stays in order. It is not `Drop`: `done` takes its length back, so that none is forgotten.
 pub struct OrderedList<'a, T> {
     lines: &'a mut [T],
     len: usize,
@@ -57,7 +57,7 @@ impl<'a, T: Ranked + Copy> OrderedList<'a, T> {
         ensures same { λ _. ⌜ name (now (self .exit) .lines) ≡ name (now (self .entry) .lines) ⌝ }
         ensures long { λ _. ⌜ length (now (now (self .exit) .lines)) ≡ length (now (now (self .entry) .lines)) ⌝ }
         ensures answer { λ r. ⌜ r ≡ insertAnswer (T·Ranked .after) (now (self .entry) .len) (now (now (self .entry) .lines)) line ⌝ }
-        ensures position { λ r. ⌜ made r (BehindTheRest (T·Ranked .after) line (listOf (now (self .entry) .len) (now (now (self .entry) .lines)))) ⌝ }
+        ensures position { λ r. ⌜ made r (RightPosition (T·Ranked .after) line (listOf (now (self .entry) .len) (now (now (self .entry) .lines)))) ⌝ }
         ensures list { λ _. ⌜ listOf (now (self .exit) .len) (now (now (self .exit) .lines)) ≡ insertList (T·Ranked .after) (now (self .entry) .len) (now (now (self .entry) .lines)) line ⌝ }
         ensures memory { λ _. ⌜ now (now (self .exit) .lines) ≡ insertMemory (T·Ranked .after) (now (self .entry) .len) (now (now (self .entry) .lines)) line ⌝ }
         ensures count { λ _. ⌜ now (self .exit) .len ≡ insertLen (now (self .entry) .len) (now (now (self .entry) .lines)) ⌝ }

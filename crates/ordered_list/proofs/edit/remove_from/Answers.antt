@@ -1,4 +1,3 @@
-use mathlib.Core.Path.{_≡_}
 use Rattle.ordered_list.proofs.Edits.{turned-left}
 use Rattle.ordered_list.proofs.edit.remove_from.Needs as need
 

@@ -1,7 +1,7 @@
 use native.Mathlib.Omega.{arith}
 use Prim.Native.Nat.{_-_, _≤_, _<_}
 use lib.ListN.{length}
-use mathlib.Core.Path.{_≡_, refl, sym, ap, _∙_}
+use mathlib.Core.Path.{_≡_, refl, ap, _∙_}
 use Rattle.ordered_list.specs.Order.{inOrder}
 use Rattle.ordered_list.specs.Lists.{listOf, lengthOf, removeList, removeMemory, removeLen}
 use Rattle.ordered_list.proofs.Memory.{remove-none, remove-some, list-remove, order-remove}
