@@ -1,14 +1,10 @@
 ghost use mathlib.Core.Path.{_≡_};
 ghost use Rattle.depository.specs.Accounts.{isEmpty};
 use units::Lots;
-use units::LotsDebug;
-use units::LotsPartialEq;
 use units::Money;
-use units::MoneyDebug;
-use units::MoneyPartialEq;
 
 /// What one participant holds. Blocked amounts cover waiting orders; free ones are at the participant's hand.
-#[derive(Clone, Copy, PartialEq, Debug)]
+#[derive(Clone, Copy)]
 pub struct Account {
     pub free_lots: Lots,
     pub blocked_lots: Lots,

@@ -3,7 +3,7 @@ ghost use Rattle.depository.specs.Refusals.{codeOf};
 use units::RefusalCode;
 
 /// Why a depository refuses.
-#[derive(Clone, Copy, PartialEq, Debug)]
+#[derive(Clone, Copy)]
 pub enum DepositoryFault {
     /// 31: the participant's number is not one of 1 to 64.
     NoParticipant,

@@ -16,14 +16,8 @@ mod table;
 mod table_calls;
 
 pub use account::Account;
-pub use account::AccountDebug;
-pub use account::AccountPartialEq;
 pub use amount::Amount;
-pub use amount::AmountDebug;
-pub use amount::AmountPartialEq;
 pub use fault::DepositoryFault;
-pub use fault::DepositoryFaultDebug;
-pub use fault::DepositoryFaultPartialEq;
 pub use holdings::Holdings;
 pub use holdings::held_in_all;
 pub use interface::Depository;

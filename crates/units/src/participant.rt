@@ -2,7 +2,7 @@ ghost use mathlib.Core.Path.{_≡_};
 ghost use Rattle.units.specs.Ranges.{isParticipant};
 
 /// The number of a participant. The market has 1 to 64; any other number is nobody's, and calls refuse it.
-#[derive(Clone, Copy, PartialEq, Debug)]
+#[derive(Clone, Copy)]
 pub struct Participant(pub u16);
 
 impl Participant {
