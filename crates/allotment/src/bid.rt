@@ -1,5 +1,4 @@
 ghost use Rattle.allotment.specs.Bids.{queueOrder};
-
 use ordered_list::Ranked;
 use units::Lots;
 use units::Participant;

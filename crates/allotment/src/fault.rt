@@ -1,6 +1,5 @@
 ghost use mathlib.Core.Path.{_≡_};
 ghost use Rattle.allotment.specs.declared.fault.AllotmentFault.the-variants.{Depository as OfDepository, Sharing as OfSharing, List as OfList, Printing as OfPrinting};
-
 use depository::DepositoryFault;
 use ordered_list::ListFault;
 use sharing::SharingFault;

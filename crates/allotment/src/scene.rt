@@ -10,6 +10,7 @@ use super::steps::queue;
 use super::steps::saved;
 use super::steps::settle;
 use depository::Account;
+use depository::AccountBook;
 use depository::Amount;
 use depository::BackOffice;
 use depository::Depository;
@@ -21,12 +22,20 @@ use units::Participant;
 use units::Price;
 
 const SELLER: Participant = Participant(1);
+
 const OFFERED: Lots = Lots(33);
+
 const PRICE: Price = Price(100);
+
 const LIMIT: Price = Price(103);
 
 /// The whole allotment by one rule over one depository. Answers the four participants' balances at the end.
-pub fn carry_out<R: SharingRule, D: BackOffice>(rt: &LibcRuntime, title: &str, rule: &R, depository: &mut D) -> Result<[Account; 4], AllotmentFault> {
+pub fn carry_out<R: SharingRule, D: BackOffice>(
+    rt: &LibcRuntime,
+    title: &str,
+    rule: &R,
+    depository: &mut D,
+) -> Result<[Account; 4], AllotmentFault> {
     println!(rt, "")?;
     println!(rt, "{title}")?;
     pay_in(rt, depository, SELLER, Amount::Lots(OFFERED))?;
@@ -45,7 +54,12 @@ pub fn carry_out<R: SharingRule, D: BackOffice>(rt: &LibcRuntime, title: &str, r
     balances(rt, depository)
 }
 
-fn pay_in<D: BackOffice>(rt: &LibcRuntime, depository: &mut D, who: Participant, what: Amount) -> Result<(), AllotmentFault> {
+fn pay_in<D: BackOffice>(
+    rt: &LibcRuntime,
+    depository: &mut D,
+    who: Participant,
+    what: Amount,
+) -> Result<(), AllotmentFault> {
     depository.pay_in(who, what)?;
     let Participant(who) = who;
     match what {
@@ -63,9 +77,24 @@ fn offer<D: Depository>(rt: &LibcRuntime, depository: &mut D) -> Result<(), Allo
 
 /// The level's bids in queue order, whatever order they are handed in.
 fn level() -> Result<[Bid; 3], AllotmentFault> {
-    let first = Bid { number: 1, who: Participant(2), limit: LIMIT, lots: Lots(50) };
-    let second = Bid { number: 2, who: Participant(3), limit: LIMIT, lots: Lots(30) };
-    let third = Bid { number: 3, who: Participant(4), limit: LIMIT, lots: Lots(20) };
+    let first = Bid {
+        number: 1,
+        who: Participant(2),
+        limit: LIMIT,
+        lots: Lots(50),
+    };
+    let second = Bid {
+        number: 2,
+        who: Participant(3),
+        limit: LIMIT,
+        lots: Lots(30),
+    };
+    let third = Bid {
+        number: 3,
+        who: Participant(4),
+        limit: LIMIT,
+        lots: Lots(20),
+    };
     let mut memory = [first; 3];
     let len = queue(&mut memory, 0, third)?;
     let len = queue(&mut memory, len, first)?;
@@ -73,45 +102,77 @@ fn level() -> Result<[Bid; 3], AllotmentFault> {
     Ok(memory)
 }
 
-fn block<D: Depository>(rt: &LibcRuntime, depository: &mut D, bid: Bid) -> Result<(), AllotmentFault> {
+fn block<D: Depository>(
+    rt: &LibcRuntime,
+    depository: &mut D,
+    bid: Bid,
+) -> Result<(), AllotmentFault> {
     let cover = cover(bid);
     depository.block(bid.who, Amount::Money(cover))?;
     let Participant(who) = bid.who;
     let Lots(lots) = bid.lots;
     let Price(limit) = bid.limit;
     let Money(cover) = cover;
-    println!(rt, "  {who} bids for {lots} lots at {limit}: {cover} money blocked")?;
+    println!(
+        rt,
+        "  {who} bids for {lots} lots at {limit}: {cover} money blocked"
+    )?;
     Ok(())
 }
 
-fn share<R: SharingRule>(rt: &LibcRuntime, rule: &R, level: [Bid; 3]) -> Result<[Share; 3], AllotmentFault> {
-    let blank = Share { lots: Lots(0), share: Lots(0) };
-    let mut shares = [blank; 3];
-    for i in 0..3 {
-        shares[i].lots = level[i].lots;
+/// The level's line for a bid, with no share yet.
+fn line(bid: Bid) -> Share {
+    Share {
+        lots: bid.lots,
+        share: Lots(0),
     }
+}
+
+fn share<R: SharingRule>(
+    rt: &LibcRuntime,
+    rule: &R,
+    level: [Bid; 3],
+) -> Result<[Share; 3], AllotmentFault> {
+    let mut shares = [line(level[0]), line(level[1]), line(level[2])];
     rule.share(&mut shares, OFFERED)?;
     let a = shares[0].share.0;
     let b = shares[1].share.0;
     let c = shares[2].share.0;
-    println!(rt, "  33 lots are shared out: {a} of 50, {b} of 30, {c} of 20")?;
+    println!(
+        rt,
+        "  33 lots are shared out: {a} of 50, {b} of 30, {c} of 20"
+    )?;
     Ok(shares)
 }
 
-fn deal<D: Depository>(rt: &LibcRuntime, depository: &mut D, bid: Bid, share: Lots) -> Result<(), AllotmentFault> {
+fn deal<D: Depository>(
+    rt: &LibcRuntime,
+    depository: &mut D,
+    bid: Bid,
+    share: Lots,
+) -> Result<(), AllotmentFault> {
     settle(depository, SELLER, bid, share, PRICE)?;
     let Participant(who) = bid.who;
     let Lots(lots) = share;
     let Money(money) = PRICE.times(share);
     let Money(saving) = saved(bid, share, PRICE);
     let Money(rest) = left_over(bid, share);
-    println!(rt, "  1 delivers {lots} lots to {who} for {money}; {who} has {saving} saved and {rest} left over released")?;
+    println!(
+        rt,
+        "  {who} gets {lots} lots from 1 for {money}; {saving} saved and {rest} not needed are released"
+    )?;
     Ok(())
 }
 
 /// Prints the balances of participants 1 to 4, and answers them.
-fn balances<D: Depository>(rt: &LibcRuntime, depository: &D) -> Result<[Account; 4], AllotmentFault> {
-    println!(rt, "  participant  free lots  blocked lots  free money  blocked money")?;
+fn balances<D: Depository>(
+    rt: &LibcRuntime,
+    depository: &D,
+) -> Result<[Account; 4], AllotmentFault> {
+    println!(
+        rt,
+        "  participant  free lots  blocked lots  free money  blocked money"
+    )?;
     let mut all = [Account::EMPTY; 4];
     for i in 0..4 {
         let who = i as u16 + 1;
@@ -120,7 +181,10 @@ fn balances<D: Depository>(rt: &LibcRuntime, depository: &D) -> Result<[Account;
         let blocked_lots = account.blocked_lots.0;
         let free_money = account.free_money.0;
         let blocked_money = account.blocked_money.0;
-        println!(rt, "  {who:>11}  {free_lots:>9}  {blocked_lots:>12}  {free_money:>10}  {blocked_money:>13}")?;
+        println!(
+            rt,
+            "  {who:>11}  {free_lots:>9}  {blocked_lots:>12}  {free_money:>10}  {blocked_money:>13}"
+        )?;
         all[i] = account;
     }
     Ok(all)

@@ -5,9 +5,9 @@ ghost use Rattle.ordered_list.specs.Lists.{insertMemory};
 ghost use Rattle.depository.specs.Calls.{deliverAfter, releaseAfter};
 ghost use Rattle.depository.specs.declared.amount.Amount.the-variants.{Money as OfMoney};
 ghost use Rattle.allotment.specs.Bids.{queueOrder, savedBy, leftOver};
-
 use super::bid::Bid;
 use super::bid::QueueOrder;
+use depository::AccountBook;
 use depository::Amount;
 use depository::Depository;
 use depository::DepositoryFault;
@@ -52,8 +52,14 @@ pub fn left_over(bid: Bid, share: Lots) -> Money
 
 /// Settles a bid's share at the price: lots against money, then the bidder gets back what it saved and the cover of
 /// what it did not get. Proved over every depository, from the contracts of its calls alone.
-pub fn settle<D: Depository>(depository: &mut D, seller: Participant, bid: Bid, share: Lots, price: Price) -> Result<(), DepositoryFault>
-    ensures { λ r. ⌜ (r ≡ Ok tt → D·Depository .accounts (now (depository .exit)) ≡ releaseAfter (releaseAfter (deliverAfter (D·Depository .accounts (now (depository .entry))) seller (bid .who) share (worth price share)) (bid .who) (OfMoney (savedBy bid share price))) (bid .who) (OfMoney (leftOver bid share))) ⌝ }
+pub fn settle<D: Depository>(
+    depository: &mut D,
+    seller: Participant,
+    bid: Bid,
+    share: Lots,
+    price: Price,
+) -> Result<(), DepositoryFault>
+    ensures { λ r. ⌜ (r ≡ Ok tt → D·AccountBook .accounts (now (depository .exit)) ≡ releaseAfter (releaseAfter (deliverAfter (D·AccountBook .accounts (now (depository .entry))) seller (bid .who) share (worth price share)) (bid .who) (OfMoney (savedBy bid share price))) (bid .who) (OfMoney (leftOver bid share))) ⌝ }
 {
     depository.deliver(seller, bid.who, share, price.times(share))?;
     depository.release(bid.who, Amount::Money(saved(bid, share, price)))?;

@@ -1,5 +1,3 @@
+pub mod Decisions
+pub mod Deliveries
 pub mod Totals
-pub mod Changes
-pub mod Delivery
-pub mod Entries
-pub mod Lines

@@ -6,7 +6,7 @@ use Rattle.units.specs.Ranges.{mostLots, mostMoney}
 use Rattle.depository.specs.declared.account.Account.{Account}
 use Rattle.depository.specs.declared.amount.Amount.{Amount}
 use Rattle.depository.specs.declared.amount.Amount.the-variants.{Lots, Money}
-use Rattle.depository.specs.declared.holdings.Holdings.{Holdings}
+use Rattle.depository.specs.declared.held.Holdings.{Holdings}
 use Rattle.depository.specs.Accounts.{account, lotsHeld, moneyHeld}
 
 abbrev pub size : Amount → ℕ
@@ -43,9 +43,12 @@ blocking x a = refigured x (freeOf x a - size x) (blockedOf x a + size x) a
 abbrev pub releasing : Amount → Account → Account
 releasing x a = refigured x (freeOf x a + size x) (blockedOf x a - size x) a
 
--- the amount comes to what is free, leaves what is free, leaves what is blocked
+-- the amount comes to what is free, to what is blocked, leaves what is free, leaves what is blocked
 abbrev pub gaining : Amount → Account → Account
 gaining x a = refigured x (freeOf x a + size x) (blockedOf x a) a
+
+abbrev pub securing : Amount → Account → Account
+securing x a = refigured x (freeOf x a) (blockedOf x a + size x) a
 
 abbrev pub losing : Amount → Account → Account
 losing x a = refigured x (freeOf x a - size x) (blockedOf x a) a

@@ -40,14 +40,15 @@ abbrev pub releaseAfter : List Account → Participant → Amount → List Accou
 releaseAfter accounts p x = ifOk (releaseAnswer accounts p x) (changed accounts p (releasing x)) accounts
 
 -- hand over: an amount leaves what one participant has blocked and comes to what another, or the same, has free
-abbrev pub handOverAnswer : List Account → Participant → Amount → Done
-handOverAnswer accounts giver x = check (hasBlocked x (of accounts giver)) BlockedTooSmall (Ok tt)
+abbrev pub handOverAnswer : List Account → Participant → Participant → Amount → Done
+handOverAnswer accounts giver taker x =
+    check (isParticipant taker) NoParticipant (check (isParticipant giver) NoParticipant (check (hasBlocked x (of accounts giver)) BlockedTooSmall (Ok tt)))
 
 abbrev pub handedOver : List Account → Participant → Participant → Amount → List Account
 handedOver accounts giver taker x = changed (changed accounts giver (surrendering x)) taker (gaining x)
 
 abbrev pub handOverAfter : List Account → Participant → Participant → Amount → List Account
-handOverAfter accounts giver taker x = ifOk (handOverAnswer accounts giver x) (handedOver accounts giver taker x) accounts
+handOverAfter accounts giver taker x = ifOk (handOverAnswer accounts giver taker x) (handedOver accounts giver taker x) accounts
 
 -- deliver: the seller hands lots over to the buyer, and the buyer money to the seller
 abbrev pub deliverAnswer : List Account → Participant → Participant → LotsOnly → MoneyOnly → Done

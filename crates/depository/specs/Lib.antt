@@ -1,5 +1,5 @@
 pub mod Accounts
 pub mod Amounts
 pub mod Calls
-pub mod Entries
+pub mod Changes
 pub mod Refusals

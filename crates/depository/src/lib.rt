@@ -1,30 +1,31 @@
-//! What participants hold: the interfaces of a depository, and two depositories.
+//! What participants hold: what every depository means and promises.
+//!
+//! `Depository` is the narrow interface that a session sees, `BackOffice` the wider one. Who writes a depository of their
+//! own keeps the accounts in a store of their own, whose one write is `AccountStore::apply`; `decide` and `deliver` are
+//! the rest.
 
 mod account;
+mod after;
 mod amount;
-mod entry;
+mod back_office;
+mod book;
+mod change;
+mod decision;
+mod delivery;
 mod fault;
-mod figures;
-mod holdings;
+mod held;
 mod interface;
-mod moves;
-mod office;
-mod sparse;
-mod sparse_calls;
 mod store;
-mod table;
-mod table_calls;
 
 pub use account::Account;
 pub use amount::Amount;
+pub use back_office::BackOffice;
+pub use book::AccountBook;
+pub use change::Change;
+pub use decision::decide;
+pub use delivery::deliver;
 pub use fault::DepositoryFault;
-pub use holdings::Holdings;
-pub use holdings::held_in_all;
+pub use held::Holdings;
+pub use held::held_in_all;
 pub use interface::Depository;
-pub use office::BackOffice;
-pub use sparse::SparseDepository;
-pub use sparse_calls::SparseAccounts;
-pub use sparse_calls::SparseOffice;
-pub use table::TableDepository;
-pub use table_calls::TableAccounts;
-pub use table_calls::TableOffice;
+pub use store::AccountStore;

@@ -11,3 +11,8 @@ check test refusal next = cond test next (Err refusal)
 abbrev pub ifOk : {T E X : Type 0} → Result T E → X → X → X
 ifOk (Ok answer) new old = new
 ifOk (Err refusal) new old = old
+
+-- where one answer is accepted, this value; its refusal otherwise
+abbrev pub given : {S T E : Type 0} → Result S E → T → Result T E
+given (Ok answer) x = Ok x
+given (Err refusal) x = Err refusal
