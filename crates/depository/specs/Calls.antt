@@ -39,16 +39,9 @@ releaseAnswer accounts p x = check (isParticipant p) NoParticipant (check (hasBl
 abbrev pub releaseAfter : List Account → Participant → Amount → List Account
 releaseAfter accounts p x = ifOk (releaseAnswer accounts p x) (changed accounts p (releasing x)) accounts
 
--- hand over: an amount leaves what one participant has blocked and comes to what another, or the same, has free
-abbrev pub handOverAnswer : List Account → Participant → Participant → Amount → Done
-handOverAnswer accounts giver taker x =
-    check (isParticipant taker) NoParticipant (check (isParticipant giver) NoParticipant (check (hasBlocked x (of accounts giver)) BlockedTooSmall (Ok tt)))
-
+-- an amount leaves what one participant has blocked and comes to what another, or the same, has free
 abbrev pub handedOver : List Account → Participant → Participant → Amount → List Account
 handedOver accounts giver taker x = changed (changed accounts giver (surrendering x)) taker (gaining x)
-
-abbrev pub handOverAfter : List Account → Participant → Participant → Amount → List Account
-handOverAfter accounts giver taker x = ifOk (handOverAnswer accounts giver taker x) (handedOver accounts giver taker x) accounts
 
 -- deliver: the seller hands lots over to the buyer, and the buyer money to the seller
 abbrev pub deliverAnswer : List Account → Participant → Participant → LotsOnly → MoneyOnly → Done
@@ -56,9 +49,11 @@ deliverAnswer accounts seller buyer n m =
     check (isParticipant seller && isParticipant buyer) NoParticipant
     (check (hasBlocked (Lots n) (of accounts seller) && hasBlocked (Money m) (of accounts buyer)) BlockedTooSmall (Ok tt))
 
+abbrev pub delivered : List Account → Participant → Participant → LotsOnly → MoneyOnly → List Account
+delivered accounts seller buyer n m = handedOver (handedOver accounts seller buyer (Lots n)) buyer seller (Money m)
+
 abbrev pub deliverAfter : List Account → Participant → Participant → LotsOnly → MoneyOnly → List Account
-deliverAfter accounts seller buyer n m =
-    ifOk (deliverAnswer accounts seller buyer n m) (handedOver (handedOver accounts seller buyer (Lots n)) buyer seller (Money m)) accounts
+deliverAfter accounts seller buyer n m = ifOk (deliverAnswer accounts seller buyer n m) (delivered accounts seller buyer n m) accounts
 
 -- pay in: what is free grows, as far as all participants' total of that kind allows
 abbrev pub payInAnswer : List Account → Participant → Amount → Done

@@ -3,6 +3,8 @@ ghost use mathlib.Core.Bool.{true};
 ghost use Rattle.std.specs.Vec.{made};
 ghost use Rattle.units.specs.Ranges.{isParticipant};
 ghost use Rattle.depository.specs.Accounts.{changed, Within};
+ghost use Rattle.std.specs.declared.result.Result.the-variants.{Ok};
+ghost use Rattle.depository.specs.Calls.{balancesAnswer};
 ghost use Rattle.depository.specs.Changes.{roomAnswer, decided};
 use super::account::Account;
 use super::book::AccountBook;
@@ -24,6 +26,17 @@ pub fn decide<B: AccountBook>(
 {
     let account = book.balances(who)?;
     has_room(book, change)?;
+    fitting(book, who, change, account)
+}
+
+/// The participant's account after a change for which there is room in all: then there is room in the account.
+fn fitting<B: AccountBook>(book: &B, who: Participant, change: Change, account: Account) -> Result<Account, DepositoryFault>
+    requires there { ⌜ Ok account ≡ balancesAnswer (accounts (now book)) who ⌝ }
+    requires room { ⌜ Ok tt ≡ roomAnswer (accounts (now book)) change ⌝ }
+    ensures answer { λ r. ⌜ r ≡ decided (accounts (now (book .entry))) who change ⌝ }
+    ensures known { λ r. ⌜ made r (λ _. isParticipant who ≡ true) ⌝ }
+    ensures bounded { λ r. ⌜ made r (λ new. Within (changed (accounts (now (book .entry))) who (λ _. new))) ⌝ }
+{
     account.after(change)
 }
 
