@@ -6,15 +6,15 @@ use units::Price;
 
 /// A buy order of the level.
 #[derive(Clone, Copy)]
-pub struct Bid {
-    pub number: u16,
-    pub who: Participant,
-    pub limit: Price,
-    pub lots: Lots,
+pub(crate) struct Bid {
+    pub(crate) number: u16,
+    pub(crate) who: Participant,
+    pub(crate) limit: Price,
+    pub(crate) lots: Lots,
 }
 
 // the higher limit goes first, and of one limit the lower number
-pub impl Ranked for Bid as QueueOrder {
+pub(crate) impl Ranked for Bid as QueueOrder {
     ghost after = { queueOrder };
 
     fn ranks_after(&self, other: &Bid) -> bool {

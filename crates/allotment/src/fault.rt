@@ -7,14 +7,14 @@ use std::io;
 
 /// Why an allotment stopped: a refusal of a layer below, held whole, or a line that could not be printed.
 #[derive(Clone, Copy)]
-pub enum AllotmentFault {
+pub(crate) enum AllotmentFault {
     Depository(DepositoryFault),
     Sharing(SharingFault),
     List(ListFault),
     Printing(io::Error),
 }
 
-pub impl From<DepositoryFault> for AllotmentFault as FromDepository {
+pub(crate) impl From<DepositoryFault> for AllotmentFault as FromDepository {
     ghost converts = { λ fault r. r ≡ OfDepository fault };
 
     fn from(fault: DepositoryFault) -> AllotmentFault {
@@ -22,7 +22,7 @@ pub impl From<DepositoryFault> for AllotmentFault as FromDepository {
     }
 }
 
-pub impl From<SharingFault> for AllotmentFault as FromSharing {
+pub(crate) impl From<SharingFault> for AllotmentFault as FromSharing {
     ghost converts = { λ fault r. r ≡ OfSharing fault };
 
     fn from(fault: SharingFault) -> AllotmentFault {
@@ -30,7 +30,7 @@ pub impl From<SharingFault> for AllotmentFault as FromSharing {
     }
 }
 
-pub impl From<ListFault> for AllotmentFault as FromList {
+pub(crate) impl From<ListFault> for AllotmentFault as FromList {
     ghost converts = { λ fault r. r ≡ OfList fault };
 
     fn from(fault: ListFault) -> AllotmentFault {
@@ -38,7 +38,7 @@ pub impl From<ListFault> for AllotmentFault as FromList {
     }
 }
 
-pub impl From<io::Error> for AllotmentFault as FromPrinting {
+pub(crate) impl From<io::Error> for AllotmentFault as FromPrinting {
     ghost converts = { λ fault r. r ≡ OfPrinting fault };
 
     fn from(fault: io::Error) -> AllotmentFault {

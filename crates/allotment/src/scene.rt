@@ -30,7 +30,7 @@ const PRICE: Price = Price(100);
 const LIMIT: Price = Price(103);
 
 /// The whole allotment by one rule over one depository. Answers the four participants' balances at the end.
-pub fn carry_out<R: SharingRule, D: BackOffice>(
+pub(crate) fn carry_out<R: SharingRule, D: BackOffice>(
     rt: &LibcRuntime,
     title: &str,
     rule: &R,

@@ -19,7 +19,7 @@ use units::Participant;
 use units::Price;
 
 /// Puts a bid into the queue, whose first `len` places are taken, and answers how many are taken then.
-pub fn queue(memory: &mut [Bid], len: usize, bid: Bid) -> Result<usize, ListFault>
+pub(crate) fn queue(memory: &mut [Bid], len: usize, bid: Bid) -> Result<usize, ListFault>
     ensures { λ _. ⌜ now (memory .exit) ≡ insertMemory queueOrder len (now (memory .entry)) bid ⌝ }
 {
     let mut list = OrderedList::over(memory, len);
@@ -30,21 +30,21 @@ pub fn queue(memory: &mut [Bid], len: usize, bid: Bid) -> Result<usize, ListFaul
 }
 
 /// The money that a bid blocks.
-pub fn cover(bid: Bid) -> Money
+pub(crate) fn cover(bid: Bid) -> Money
     ensures { λ r. ⌜ r ≡ worth (bid .limit) (bid .lots) ⌝ }
 {
     bid.limit.times(bid.lots)
 }
 
 /// What a deal at this price saves the bidder on its share; nothing where the price is not below the limit.
-pub fn saved(bid: Bid, share: Lots, price: Price) -> Money
+pub(crate) fn saved(bid: Bid, share: Lots, price: Price) -> Money
     ensures { λ r. ⌜ r ≡ savedBy bid share price ⌝ }
 {
     Price(bid.limit.0.saturating_sub(price.0)).times(share)
 }
 
 /// The cover of what a bid did not get.
-pub fn left_over(bid: Bid, share: Lots) -> Money
+pub(crate) fn left_over(bid: Bid, share: Lots) -> Money
     ensures { λ r. ⌜ r ≡ leftOver bid share ⌝ }
 {
     bid.limit.times(Lots(bid.lots.0.saturating_sub(share.0)))
@@ -52,7 +52,7 @@ pub fn left_over(bid: Bid, share: Lots) -> Money
 
 /// Settles a bid's share at the price: lots against money, then the bidder gets back what it saved and the cover of
 /// what it did not get. Proved over every depository, from the contracts of its calls alone.
-pub fn settle<D: Depository>(
+pub(crate) fn settle<D: Depository>(
     depository: &mut D,
     seller: Participant,
     bid: Bid,

@@ -1,5 +1,5 @@
-use Rattle.depository.proofs.Decisions.{decides}
-use Rattle.depository.proofs.decision.fitting.Needs as need
+use Rattle.account_store.proofs.Decisions.{decides}
+use Rattle.account_store.proofs.decision.fitting.Needs as need
 
 pub returns : need.returns
 returns g c =

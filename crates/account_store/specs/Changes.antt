@@ -7,14 +7,14 @@ use Rattle.std.specs.declared.result.Result.the-variants.{Ok, Err}
 use Rattle.units.specs.Answers.{check, ifOk, given}
 use Rattle.units.specs.Ranges.{isParticipant}
 use Rattle.units.specs.declared.participant.Participant.{Participant}
 use Rattle.depository.specs.declared.account.Account.{Account}
-use Rattle.depository.specs.declared.change.Change.{Change}
-use Rattle.depository.specs.declared.change.Change.the-variants.{Block, Release, Gain, Lose, Surrender}
+use Rattle.account_store.specs.declared.change.Change.{Change}
+use Rattle.account_store.specs.declared.change.Change.the-variants.{Block, Release, Gain, Lose, Surrender}
 use Rattle.depository.specs.declared.fault.DepositoryFault.{DepositoryFault}
 use Rattle.depository.specs.declared.fault.DepositoryFault.the-variants.{NoParticipant, FreeTooSmall, BlockedTooSmall, PastTotal}
 use Rattle.depository.specs.Accounts.{inAll, of, changed}
 use Rattle.depository.specs.Amounts.{size, freeOf, blockedOf, heldOf, mostOf, hasFree, hasBlocked, blocking, releasing, gaining, losing, surrendering}
 use Rattle.depository.specs.Calls.{Done, blockAnswer, releaseAnswer, payInAnswer, payOutAnswer}
 
 -- the account after the change
 abbrev pub changing : Change → Account → Account

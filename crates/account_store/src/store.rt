@@ -1,8 +1,8 @@
 ghost use mathlib.Core.Path.{_≡_};
-ghost use Rattle.depository.specs.Changes.{changeAnswer, changeAfter};
-use super::book::AccountBook;
+ghost use Rattle.account_store.specs.Changes.{changeAnswer, changeAfter};
 use super::change::Change;
-use super::fault::DepositoryFault;
+use depository::AccountBook;
+use depository::DepositoryFault;
 use units::Participant;
 
 /// A book that can be written, one account at a time. All that a depository does is made of such changes.

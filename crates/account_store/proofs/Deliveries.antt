@@ -11,15 +11,15 @@ use Rattle.units.specs.Ranges.{isParticipant}
 use Rattle.units.specs.declared.participant.Participant.{Participant}
 use Rattle.units.specs.declared.quantity.Lots.{Lots as LotsOnly}
 use Rattle.units.specs.declared.quantity.Money.{Money as MoneyOnly}
 use Rattle.depository.specs.declared.account.Account.{Account}
 use Rattle.depository.specs.declared.amount.Amount.{Amount}
 use Rattle.depository.specs.declared.amount.Amount.the-variants.{Lots, Money}
-use Rattle.depository.specs.declared.change.Change.the-variants.{Gain, Surrender}
+use Rattle.account_store.specs.declared.change.Change.the-variants.{Gain, Surrender}
 use Rattle.depository.specs.Accounts.{empty, inAll, Within, of, changed}
 use Rattle.depository.specs.Amounts.{size, heldOf, mostOf, hasBlocked, surrendering}
 use Rattle.depository.specs.Calls.{handedOver}
-use Rattle.depository.specs.Changes.{changeAnswer}
+use Rattle.account_store.specs.Changes.{changeAnswer}
 use Rattle.depository.proofs.Totals.{room-surrendered}
 
 -- a change that keeps a figure of the account it changes keeps it for everyone
 figure-set : (figure : Account → ℕ) (xs : List Account) (i j : ℕ) (b : Account) → figure b ≡ figure (getD xs i empty) → figure (getD (set xs i b) j empty) ≡ figure (getD xs j empty)

@@ -1,5 +1,5 @@
-use Rattle.depository.proofs.Deliveries.{surrendered, gained}
-use Rattle.depository.proofs.delivery.hand_over.Needs as need
+use Rattle.account_store.proofs.Deliveries.{surrendered, gained}
+use Rattle.account_store.proofs.delivery.hand_over.Needs as need
 
 pub must-requires : need.must-requires
 must-requires g c κs = surrendered _ (c .args .giver) (c .args .what) (c .pre .giver-known) (c .pre .there)

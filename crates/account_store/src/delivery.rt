@@ -2,23 +2,28 @@ ghost use mathlib.Core.Path.{_≡_};
 ghost use mathlib.Core.Bool.{true};
 ghost use Rattle.units.specs.Ranges.{isParticipant};
 ghost use Rattle.std.specs.declared.result.Result.the-variants.{Ok};
 ghost use Rattle.depository.specs.Accounts.{of, changed};
-ghost use Rattle.depository.specs.Changes.{changeAnswer, changing};
+ghost use Rattle.account_store.specs.Changes.{changeAnswer, changing};
 ghost use Rattle.depository.specs.Amounts.{hasBlocked};
 ghost use Rattle.depository.specs.Calls.{handedOver, delivered, deliverAnswer, deliverAfter};
 ghost use Rattle.depository.specs.declared.amount.Amount.the-variants.{Lots as OfLots, Money as OfMoney};
-
-use super::amount::Amount;
-use super::book::AccountBook;
 use super::change::Change;
-use super::fault::DepositoryFault;
 use super::store::AccountStore;
+use depository::AccountBook;
+use depository::Amount;
+use depository::DepositoryFault;
 use units::Lots;
 use units::Money;
 use units::Participant;
 
 /// What `Depository::deliver` does, over any store of accounts.
-pub fn deliver<S: AccountStore>(store: &mut S, seller: Participant, buyer: Participant, lots: Lots, money: Money) -> Result<(), DepositoryFault>
+pub fn deliver<S: AccountStore>(
+    store: &mut S,
+    seller: Participant,
+    buyer: Participant,
+    lots: Lots,
+    money: Money,
+) -> Result<(), DepositoryFault>
     ensures answer { λ r. ⌜ r ≡ deliverAnswer (S·AccountBook .accounts (now (store .entry))) seller buyer lots money ⌝ }
     ensures after { λ _. ⌜ S·AccountBook .accounts (now (store .exit)) ≡ deliverAfter (S·AccountBook .accounts (now (store .entry))) seller buyer lots money ⌝ }
 {
@@ -34,7 +39,13 @@ pub fn deliver<S: AccountStore>(store: &mut S, seller: Participant, buyer: Parti
 }
 
 /// Lots one way, money the other way.
-fn move_both<S: AccountStore>(store: &mut S, seller: Participant, buyer: Participant, lots: Lots, money: Money)
+fn move_both<S: AccountStore>(
+    store: &mut S,
+    seller: Participant,
+    buyer: Participant,
+    lots: Lots,
+    money: Money,
+)
     requires seller_known { ⌜ isParticipant seller ≡ true ⌝ }
     requires buyer_known { ⌜ isParticipant buyer ≡ true ⌝ }
     requires lots_there { ⌜ hasBlocked (OfLots lots) (of (S·AccountBook .accounts (now store)) seller) ≡ true ⌝ }

@@ -1,4 +1,4 @@
-use super::amount::Amount;
+use depository::Amount;
 
 /// What can be done to one account.
 #[derive(Clone, Copy)]

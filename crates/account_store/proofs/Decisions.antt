@@ -15,19 +15,19 @@ use Rattle.units.specs.Answers.{check, given}
 use Rattle.units.specs.Ranges.{isParticipant}
 use Rattle.units.specs.declared.participant.Participant.{Participant}
 use Rattle.units.proofs.Checks.{checked-ok, ok-value}
 use Rattle.depository.specs.declared.account.Account.{Account}
 use Rattle.depository.specs.declared.amount.Amount.{Amount}
 use Rattle.depository.specs.declared.amount.Amount.the-variants.{Lots, Money}
-use Rattle.depository.specs.declared.change.Change.{Change}
-use Rattle.depository.specs.declared.change.Change.the-variants.{Block, Release, Gain, Lose, Surrender}
+use Rattle.account_store.specs.declared.change.Change.{Change}
+use Rattle.account_store.specs.declared.change.Change.the-variants.{Block, Release, Gain, Lose, Surrender}
 use Rattle.depository.specs.declared.fault.DepositoryFault.{DepositoryFault}
 use Rattle.depository.specs.declared.fault.DepositoryFault.the-variants.{NoParticipant, FreeTooSmall, BlockedTooSmall, PastTotal}
 use Rattle.depository.specs.declared.held.Holdings.{Holdings}
 use Rattle.depository.specs.Accounts.{inAll, lotsHeld, moneyHeld, Within, of, changed}
 use Rattle.depository.specs.Amounts.{size, freeOf, blockedOf, heldOf, mostOf, partOf, hasFree, hasBlocked, blocking, releasing, losing, surrendering}
 use Rattle.depository.specs.Calls.{balancesAnswer}
-use Rattle.depository.specs.Changes.{changing, decided, afterAnswer, roomAnswer}
+use Rattle.account_store.specs.Changes.{changing, decided, afterAnswer, roomAnswer}
 use Rattle.depository.proofs.Totals.{HoldsNoMore, within-one, within-changed, free-gained, within-gained}
 
 blocking-holds : (x : Amount) (a : Account) → hasFree x a ≡ true → HoldsNoMore (blocking x a) a
 blocking-holds (Lots n) a h = let k = leb-true _ _ h in (omega arith, omega arith)
