@@ -46,133 +46,150 @@ fn amounts<B: AccountBook>(book: &B, who: u16) -> [u128; 4] {
     }
 }
 
-/// 31 comes first, whatever else is wrong.
-fn nobody<D: BackOffice>(d: &mut D, who: u16) -> Result<(), Fail> {
+/// What the six calls answer for a participant; each would be refused for another reason too.
+fn asked_of<D: BackOffice>(d: &mut D, who: u16) -> [u8; 6] {
     let who = Participant(who);
     let one = Participant(1);
-    check_eq(amounts(d, who.0), [31; 4])?;
-    check_eq(number(d.block(who, lots(1))), 31)?;
-    check_eq(number(d.release(who, money(1))), 31)?;
-    check_eq(number(d.deliver(who, one, Lots(1), Money(1))), 31)?;
-    check_eq(number(d.deliver(one, who, Lots(1), Money(1))), 31)?;
-    check_eq(number(d.pay_in(who, lots(1_000_000_000_001))), 31)?;
-    check_eq(number(d.pay_out(who, money(1))), 31)
+    [
+        number(d.block(who, lots(1))),
+        number(d.release(who, money(1))),
+        number(d.deliver(who, one, Lots(1), Money(1))),
+        number(d.deliver(one, who, Lots(1), Money(1))),
+        number(d.pay_in(who, lots(1_000_000_000_001))),
+        number(d.pay_out(who, money(1))),
+    ]
 }
 
-fn participants_are_1_to_64<D: BackOffice>(d: &mut D) -> Result<(), Fail> {
-    nobody(d, 0)?;
-    nobody(d, 65)?;
-    check_eq(amounts(d, 1), [0; 4])?;
-    check_eq(number(d.pay_in(Participant(64), lots(7))), 0)?;
-    check_eq(amounts(d, 64), [7, 0, 0, 0])?;
-    check_eq(amounts(d, 1), [0; 4])
+/// Participants are 1 to 64, and 31 comes before any other refusal.
+fn participants<D: BackOffice>(d: &mut D) -> Result<(), Fail> {
+    check_eq(asked_of(d, 0), [31; 6])?;
+    check_eq(asked_of(d, 65), [31; 6])?;
+    check_eq(asked_of(d, 64), [32, 33, 33, 33, 34, 32])?;
+    check_eq(amounts(d, 65), [31; 4])?;
+    check_eq(amounts(d, 64), [0; 4])
 }
 
-fn totals_bound_what_is_paid_in<D: BackOffice>(d: &mut D) -> Result<(), Fail> {
-    check_eq(
+/// Pay-ins up to the bounds and past them.
+fn paid_in<D: BackOffice>(d: &mut D) -> [u8; 8] {
+    [
         number(d.pay_in(Participant(1), lots(1_000_000_000_001))),
-        34,
-    )?;
-    check_eq(number(d.pay_in(Participant(1), lots(999_999_999_999))), 0)?;
-    check_eq(number(d.pay_in(Participant(2), lots(2))), 34)?;
-    check_eq(number(d.pay_in(Participant(2), lots(1))), 0)?;
-    check_eq(number(d.pay_in(Participant(3), lots(0))), 0)?;
-    check_eq(number(d.pay_in(Participant(3), lots(1))), 34)?;
-    check_eq(
+        number(d.pay_in(Participant(1), lots(999_999_999_999))),
+        number(d.pay_in(Participant(2), lots(2))),
+        number(d.pay_in(Participant(2), lots(1))),
+        number(d.pay_in(Participant(3), lots(0))),
+        number(d.pay_in(Participant(3), lots(1))),
         number(d.pay_in(Participant(3), money(1_000_000_000_000_000_000))),
-        0,
-    )?;
-    check_eq(number(d.pay_in(Participant(4), money(1))), 34)?;
+        number(d.pay_in(Participant(4), money(1))),
+    ]
+}
+
+fn totals<D: BackOffice>(d: &mut D) -> Result<(), Fail> {
+    check_eq(paid_in(d), [34, 0, 34, 0, 0, 34, 0, 34])?;
     let held = held_in_all(d);
     check_eq(held.lots.0, 1_000_000_000_000)?;
     check_eq(held.money.0, 1_000_000_000_000_000_000)
 }
 
-fn what_is_free_can_be_blocked<D: BackOffice>(d: &mut D) -> Result<(), Fail> {
+/// Of 5 free lots: 6 blocked, 3 blocked, 3 paid out, 2 paid out, 4 released, 2 released; and money that is not there.
+fn blocked<D: BackOffice>(d: &mut D) -> [u8; 9] {
     let who = Participant(5);
-    check_eq(number(d.pay_in(who, lots(5))), 0)?;
-    check_eq(number(d.block(who, lots(6))), 32)?;
-    check_eq(number(d.block(who, money(1))), 32)?;
-    check_eq(number(d.block(who, money(0))), 0)?;
-    check_eq(amounts(d, 5), [5, 0, 0, 0])?;
-    check_eq(number(d.block(who, lots(3))), 0)?;
-    check_eq(amounts(d, 5), [2, 3, 0, 0])?;
-    check_eq(number(d.pay_out(who, lots(3))), 32)?;
-    check_eq(number(d.pay_out(who, lots(2))), 0)?;
-    check_eq(number(d.release(who, lots(4))), 33)?;
-    check_eq(amounts(d, 5), [0, 3, 0, 0])?;
-    check_eq(number(d.release(who, lots(3))), 0)?;
-    check_eq(amounts(d, 5), [3, 0, 0, 0])
+    [
+        number(d.pay_in(who, lots(5))),
+        number(d.block(who, lots(6))),
+        number(d.block(who, money(1))),
+        number(d.block(who, money(0))),
+        number(d.block(who, lots(3))),
+        number(d.pay_out(who, lots(3))),
+        number(d.pay_out(who, lots(2))),
+        number(d.release(who, lots(4))),
+        number(d.release(who, lots(2))),
+    ]
 }
 
-/// Participant 1 has 4 lots blocked, participant 2 has 300 money blocked.
-fn ready<D: BackOffice>(d: &mut D) -> Result<(), Fail> {
-    check_eq(number(d.pay_in(Participant(1), lots(4))), 0)?;
-    check_eq(number(d.pay_in(Participant(2), money(300))), 0)?;
-    check_eq(number(d.block(Participant(1), lots(4))), 0)?;
-    check_eq(number(d.block(Participant(2), money(300))), 0)
+fn free_and_blocked<D: BackOffice>(d: &mut D) -> Result<(), Fail> {
+    check_eq(blocked(d), [0, 32, 32, 0, 0, 32, 0, 33, 0])?;
+    check_eq(amounts(d, 5), [2, 1, 0, 0])
 }
 
-fn what_is_blocked_can_be_delivered<D: BackOffice>(d: &mut D) -> Result<(), Fail> {
-    ready(d)?;
+/// Participant 1 blocks 4 lots and participant 2 blocks 300 money; then deliveries that fail at an end, and one of nothing.
+fn undelivered<D: BackOffice>(d: &mut D) -> [u8; 8] {
     let seller = Participant(1);
     let buyer = Participant(2);
-    check_eq(number(d.deliver(seller, buyer, Lots(5), Money(300))), 33)?;
-    check_eq(number(d.deliver(seller, buyer, Lots(4), Money(301))), 33)?;
-    check_eq(number(d.deliver(buyer, seller, Lots(1), Money(1))), 33)?;
-    check_eq(number(d.deliver(seller, buyer, Lots(0), Money(0))), 0)?;
-    check_eq(amounts(d, 1), [0, 4, 0, 0])?;
-    check_eq(amounts(d, 2), [0, 0, 0, 300])?;
-    check_eq(number(d.deliver(seller, buyer, Lots(4), Money(300))), 0)?;
-    check_eq(amounts(d, 1), [0, 0, 300, 0])?;
-    check_eq(amounts(d, 2), [4, 0, 0, 0])
+    [
+        number(d.pay_in(seller, lots(4))),
+        number(d.pay_in(buyer, money(300))),
+        number(d.block(seller, lots(4))),
+        number(d.block(buyer, money(300))),
+        number(d.deliver(seller, buyer, Lots(5), Money(300))),
+        number(d.deliver(seller, buyer, Lots(4), Money(301))),
+        number(d.deliver(buyer, seller, Lots(1), Money(1))),
+        number(d.deliver(seller, buyer, Lots(0), Money(0))),
+    ]
 }
 
-fn one_may_deliver_to_itself<D: BackOffice>(d: &mut D) -> Result<(), Fail> {
+fn deliveries<D: BackOffice>(d: &mut D) -> Result<(), Fail> {
+    check_eq(undelivered(d), [0, 0, 0, 0, 33, 33, 33, 0])?;
+    check_eq(
+        [amounts(d, 1), amounts(d, 2)],
+        [[0, 4, 0, 0], [0, 0, 0, 300]],
+    )?;
+    check_eq(
+        number(d.deliver(Participant(1), Participant(2), Lots(4), Money(300))),
+        0,
+    )?;
+    check_eq(
+        [amounts(d, 1), amounts(d, 2)],
+        [[0, 0, 300, 0], [4, 0, 0, 0]],
+    )
+}
+
+/// Participant 9 blocks 10 lots and 1,000 of 1,050 money, and delivers 4 lots for 300 to itself.
+fn to_itself<D: BackOffice>(d: &mut D) -> [u8; 5] {
     let who = Participant(9);
-    check_eq(number(d.pay_in(who, lots(10))), 0)?;
-    check_eq(number(d.block(who, lots(10))), 0)?;
-    check_eq(number(d.pay_in(who, money(1_050))), 0)?;
-    check_eq(number(d.block(who, money(1_000))), 0)?;
-    check_eq(amounts(d, 9), [0, 10, 50, 1_000])?;
-    check_eq(number(d.deliver(who, who, Lots(4), Money(300))), 0)?;
+    [
+        number(d.pay_in(who, lots(10))),
+        number(d.block(who, lots(10))),
+        number(d.pay_in(who, money(1_050))),
+        number(d.block(who, money(1_000))),
+        number(d.deliver(who, who, Lots(4), Money(300))),
+    ]
+}
+
+fn one_at_both_ends<D: BackOffice>(d: &mut D) -> Result<(), Fail> {
+    check_eq(to_itself(d), [0; 5])?;
     check_eq(amounts(d, 9), [4, 6, 350, 700])
 }
 
 #[test]
-fn participants() -> Result<(), Fail> {
-    participants_are_1_to_64(&mut TableDepository::new())?;
-    participants_are_1_to_64(&mut SparseDepository::new())
+fn the_table() -> Result<(), Fail> {
+    participants(&mut TableDepository::new())?;
+    totals(&mut TableDepository::new())?;
+    free_and_blocked(&mut TableDepository::new())?;
+    deliveries(&mut TableDepository::new())?;
+    one_at_both_ends(&mut TableDepository::new())
 }
 
 #[test]
-fn totals() -> Result<(), Fail> {
-    totals_bound_what_is_paid_in(&mut TableDepository::new())?;
-    totals_bound_what_is_paid_in(&mut SparseDepository::new())
+fn the_sparse_depository() -> Result<(), Fail> {
+    participants(&mut SparseDepository::new())?;
+    totals(&mut SparseDepository::new())?;
+    free_and_blocked(&mut SparseDepository::new())?;
+    deliveries(&mut SparseDepository::new())?;
+    one_at_both_ends(&mut SparseDepository::new())
 }
 
-#[test]
-fn free_and_blocked() -> Result<(), Fail> {
-    what_is_free_can_be_blocked(&mut TableDepository::new())?;
-    what_is_free_can_be_blocked(&mut SparseDepository::new())
-}
-
-#[test]
-fn deliveries() -> Result<(), Fail> {
-    what_is_blocked_can_be_delivered(&mut TableDepository::new())?;
-    what_is_blocked_can_be_delivered(&mut SparseDepository::new())?;
-    one_may_deliver_to_itself(&mut TableDepository::new())?;
-    one_may_deliver_to_itself(&mut SparseDepository::new())
+/// How many entries there are after a call.
+fn entries_after(d: &mut SparseDepository, who: u16, what: Amount) -> usize {
+    let _ = d.pay_in(Participant(who), what);
+    d.entry_count()
 }
 
 #[test]
 fn entries_are_of_those_who_hold_something() -> Result<(), Fail> {
     let mut d = SparseDepository::new();
-    check_eq(number(d.pay_in(Participant(3), money(0))), 0)?;
-    check_eq(d.entry_count(), 0)?;
-    check_eq(number(d.pay_in(Participant(3), money(2))), 0)?;
-    check_eq(number(d.pay_in(Participant(2), lots(1))), 0)?;
-    check_eq(d.entry_count(), 2)?;
+    check_eq(entries_after(&mut d, 3, money(0)), 0)?;
+    check_eq(entries_after(&mut d, 3, money(2)), 1)?;
+    check_eq(entries_after(&mut d, 2, lots(1)), 2)?;
     check_eq(number(d.pay_out(Participant(3), money(2))), 0)?;
     check_eq(d.entry_count(), 1)
 }
@@ -181,7 +198,7 @@ fn entries_are_of_those_who_hold_something() -> Result<(), Fail> {
 fn all_64_may_have_entries() -> Result<(), Fail> {
     let mut d = SparseDepository::new();
     for i in 0..64 {
-        check_eq(number(d.pay_in(Participant(64 - i), lots(1))), 0)?;
+        let _ = d.pay_in(Participant(64 - i), lots(1));
     }
     check_eq(d.entry_count(), 64)?;
     check_eq(amounts(&d, 17), [1, 0, 0, 0])
