@@ -18,8 +18,6 @@ use Rattle.ordered_list.specs.Order.{allAfter, positionOf, placed}
 use Rattle.ordered_list.proofs.Placed.{length-placed}
 use Rattle.depository.specs.declared.account.Account.{Account}
 use Rattle.sparse_depository.specs.declared.entry.AccountEntry.{AccountEntry}
-use Rattle.std.specs.declared.result.Result.the-variants.{Ok}
-use Rattle.depository.specs.Calls.{balancesAnswer}
 use Rattle.depository.specs.Accounts.{account, empty, isEmpty, Within, of, changed}
 use Rattle.sparse_depository.specs.Entries.{number, byParticipant, look, accountsOf, rising, allHold, without, replaced, nobody}
 
@@ -282,6 +280,3 @@ look-found p entries count i there rises =
 pub within-none : Within (accountsOf [])
 unfolding accountsOf
 within-none = (omega arith, omega arith)
-
-pub looked-up : (es : List AccountEntry) (p : Participant) (a : Account) → true ≡ isParticipant p → a ≡ look es (p .0) → Ok a ≡ balancesAnswer (accountsOf es) p
-looked-up es p a known e = ap Ok (e ∙ sym (of-accounts es p (sym known))) ∙ sym (cond-true (isParticipant p) _ _ (sym known))

@@ -3,9 +3,9 @@ ghost use mathlib.Core.Bool.{true};
 ghost use mathlib.Core.List.{List};
 ghost use lib.ListN.{take};
 ghost use Rattle.units.specs.Ranges.{isParticipant};
-ghost use Rattle.depository.specs.Accounts.{changed, Within};
+ghost use Rattle.depository.specs.Accounts.{of, changed, Within};
 ghost use Rattle.depository.specs.declared.account.Account.{Account};
-ghost use Rattle.sparse_depository.specs.Entries.{look, accountsOf};
+ghost use Rattle.sparse_depository.specs.Entries.{accountsOf};
 use super::entry::ByParticipant;
 use super::exchange::exchange;
 use super::exchange::position_of;
@@ -40,7 +40,8 @@ pub impl AccountBook for SparseDepository as SparseBook {
 impl SparseDepository {
     /// What the entries say of a participant: an empty account where there is no entry.
     fn account(&self, who: Participant) -> Account
-        ensures { λ r. ⌜ r ≡ look (take (now (self .entry) .count) (now (self .entry) .entries)) (who .0) ⌝ }
+        requires { ⌜ isParticipant who ≡ true ⌝ }
+        ensures { λ r. ⌜ r ≡ of (accountsOf (take (now (self .entry) .count) (now (self .entry) .entries))) who ⌝ }
     {
         match position_of(&self.entries[0..self.count], who) {
             Some(i) => self.entries[i].account,
