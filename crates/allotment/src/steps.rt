@@ -1,10 +1,7 @@
 ghost use mathlib.Core.Path.{_≡_};
-ghost use Rattle.std.specs.declared.result.Result.the-variants.{Ok};
 ghost use Rattle.units.specs.Worth.{worth};
 ghost use Rattle.ordered_list.specs.Lists.{insertMemory};
-ghost use Rattle.depository.specs.Calls.{deliverAfter, releaseAfter};
-ghost use Rattle.depository.specs.declared.amount.Amount.the-variants.{Money as OfMoney};
-ghost use Rattle.allotment.specs.Bids.{queueOrder, savedBy, leftOver};
+ghost use Rattle.allotment.specs.Bids.{queueOrder, savedBy, leftOver, settleAnswer, settleAfter};
 use super::bid::Bid;
 use super::bid::QueueOrder;
 use depository::AccountBook;
@@ -59,7 +56,8 @@ pub(crate) fn settle<D: Depository>(
     share: Lots,
     price: Price,
 ) -> Result<(), DepositoryFault>
-    ensures { λ r. ⌜ (r ≡ Ok tt → D·AccountBook .accounts (now (depository .exit)) ≡ releaseAfter (releaseAfter (deliverAfter (D·AccountBook .accounts (now (depository .entry))) seller (bid .who) share (worth price share)) (bid .who) (OfMoney (savedBy bid share price))) (bid .who) (OfMoney (leftOver bid share))) ⌝ }
+    ensures answer { λ r. ⌜ r ≡ settleAnswer (D·AccountBook .accounts (now (depository .entry))) seller bid share price ⌝ }
+    ensures after { λ _. ⌜ D·AccountBook .accounts (now (depository .exit)) ≡ settleAfter (D·AccountBook .accounts (now (depository .entry))) seller bid share price ⌝ }
 {
     depository.deliver(seller, bid.who, share, price.times(share))?;
     depository.release(bid.who, Amount::Money(saved(bid, share, price)))?;

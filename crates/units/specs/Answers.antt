@@ -16,3 +16,8 @@ ifOk (Err refusal) new old = old
 abbrev pub given : {S T E : Type 0} → Result S E → T → Result T E
 given (Ok answer) x = Ok x
 given (Err refusal) x = Err refusal
+
+-- one call after another: a refusal of the first ends it
+abbrev pub andThen : {S T E : Type 0} → Result S E → Result T E → Result T E
+andThen (Ok answer) next = next
+andThen (Err refusal) next = Err refusal
