@@ -30,3 +30,11 @@ pub(crate) fn remove_from<T: Copy>(lines: &mut [T], len: usize, at: usize) -> T
     lines[at..len].rotate_left(1);
     line
 }
+
+/// The first `len` lines, or all where there are fewer.
+pub(crate) fn first<T>(lines: &[T], len: usize) -> &[T]
+    ensures { λ r. ⌜ now r ≡ take len (now (lines .entry)) ⌝ }
+{
+    let end = len.min(lines.len());
+    &lines[0..end]
+}

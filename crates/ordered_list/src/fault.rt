@@ -3,7 +3,7 @@ ghost use Rattle.ordered_list.specs.Refusals.{codeOf};
 use units::RefusalCode;
 
 /// Why a call on an ordered list was refused.
-#[derive(Clone, Copy, PartialEq, Eq, Debug)]
+#[derive(Clone, Copy)]
 pub enum ListFault {
     /// The memory has no room for another line.
     Full,

@@ -7,7 +7,5 @@ mod position;
 mod ranked;
 
 pub use fault::ListFault;
-pub use fault::ListFaultDebug;
-pub use fault::ListFaultPartialEq;
 pub use list::OrderedList;
 pub use ranked::Ranked;

@@ -4,9 +4,10 @@ ghost use denote.Ref.{name};
 ghost use lib.ListN.{length};
 ghost use Rattle.std.specs.Vec.{made};
 ghost use Rattle.ordered_list.specs.Order.{inOrder, RightPosition};
-ghost use Rattle.ordered_list.specs.Lists.{listOf, lengthOf, insertAnswer, insertList, insertMemory, insertLen, removeAnswer, removeList, removeMemory, removeLen};
+ghost use Rattle.ordered_list.specs.Lists.{listOf, lengthOf, hasRoom, hasPosition, insertAnswer, insertList, insertMemory, insertLen, removeAnswer, removeList, removeMemory, removeLen};
 use crate::ListFault;
 use crate::Ranked;
+use crate::edit::first;
 use crate::edit::insert_into;
 use crate::edit::remove_from;
 
@@ -48,8 +49,7 @@ impl<'a, T: Ranked + Copy> OrderedList<'a, T> {
     pub fn lines(&self) -> &[T]
         ensures { λ r. ⌜ now r ≡ listOf (now (self .entry) .len) (now (now (self .entry) .lines)) ⌝ }
     {
-        let len = self.len();
-        &self.lines[0..len]
+        first(self.lines, self.len)
     }
 
     /// Puts a line behind all that do not rank after it, and answers its position.
@@ -63,10 +63,10 @@ impl<'a, T: Ranked + Copy> OrderedList<'a, T> {
         ensures count { λ _. ⌜ now (self .exit) .len ≡ insertLen (now (self .entry) .len) (now (now (self .entry) .lines)) ⌝ }
         ensures order { λ _. ⌜ (inOrder (T·Ranked .after) (listOf (now (self .entry) .len) (now (now (self .entry) .lines))) ≡ true → inOrder (T·Ranked .after) (listOf (now (self .exit) .len) (now (now (self .exit) .lines))) ≡ true) ⌝ }
     {
-        let len = self.len;
-        if len >= self.lines.len() {
+        if !self.has_room() {
             return Err(ListFault::Full);
         }
+        let len = self.len;
         let at = insert_into(self.lines, len, line);
         self.len = len + 1;
         Ok(at)
@@ -82,12 +82,26 @@ impl<'a, T: Ranked + Copy> OrderedList<'a, T> {
         ensures count { λ _. ⌜ now (self .exit) .len ≡ removeLen (now (self .entry) .len) (now (now (self .entry) .lines)) at ⌝ }
         ensures order { λ _. ⌜ (inOrder (T·Ranked .after) (listOf (now (self .entry) .len) (now (now (self .entry) .lines))) ≡ true → inOrder (T·Ranked .after) (listOf (now (self .exit) .len) (now (now (self .exit) .lines))) ≡ true) ⌝ }
     {
-        let len = self.len();
-        if at >= len {
+        if !self.has_line(at) {
             return Err(ListFault::NoSuchPosition);
         }
+        let len = self.len();
         let line = remove_from(self.lines, len, at);
         self.len = len - 1;
         Ok(line)
+    }
+
+    /// Whether the memory has room behind the list.
+    fn has_room(&self) -> bool
+        ensures { λ r. ⌜ r ≡ hasRoom (now (self .entry) .len) (now (now (self .entry) .lines)) ⌝ }
+    {
+        self.len < self.lines.len()
+    }
+
+    /// Whether the list has a line at this position.
+    fn has_line(&self, at: usize) -> bool
+        ensures { λ r. ⌜ r ≡ hasPosition (now (self .entry) .len) (now (now (self .entry) .lines)) at ⌝ }
+    {
+        at < self.len()
     }
 }

@@ -10,9 +10,16 @@ pub(crate) fn position_of<T: Ranked>(lines: &[T], line: &T) -> usize
     ensures value { λ r. ⌜ r ≡ positionOf (T·Ranked .after) (now (line .entry)) (now (lines .entry)) ⌝ }
 {
     for i in (0..lines.len()).rev() {
-        if !lines[i].ranks_after(line) {
+        if !goes_in_front(line, &lines[i]) {
             return i + 1;
         }
     }
     0
+}
+
+/// Whether a new line goes in front of one that is there: it goes behind all that do not rank after it.
+fn goes_in_front<T: Ranked>(new: &T, line: &T) -> bool
+    ensures { λ r. ⌜ r ≡ T·Ranked .after (now (line .entry)) (now (new .entry)) ⌝ }
+{
+    line.ranks_after(new)
 }

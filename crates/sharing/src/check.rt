@@ -1,5 +1,7 @@
 ghost use mathlib.Core.Path.{_≡_};
-ghost use Rattle.sharing.specs.Shares.{lotsOf, sumOrFault};
+ghost use lib.Dec.{ltb};
+ghost use lib.ListN.{length};
+ghost use Rattle.sharing.specs.Shares.{lotsOf, mostLines, largestLine, sumOrFault};
 use super::fault::SharingFault;
 use super::shares::Share;
 use units::Lots;
@@ -14,18 +16,36 @@ pub const LARGEST_LINE: u64 = 1_000_000;
 pub fn checked_sum(lines: &[Share], total: Lots) -> Result<Lots, SharingFault>
     ensures { λ r. ⌜ r ≡ sumOrFault (lotsOf (now (lines .entry))) (total .0) ⌝ }
 {
-    if lines.len() > MOST_LINES {
+    if too_many(lines) {
         return Err(SharingFault::TooManyLines);
     }
     let mut sum = 0;
     for line in lines {
-        if line.lots.0 > LARGEST_LINE {
+        if too_large(*line) {
             return Err(SharingFault::LineTooLarge);
         }
         sum += line.lots.0;
     }
-    if total.0 > sum {
+    if above(total, sum) {
         return Err(SharingFault::TotalTooLarge);
     }
     Ok(Lots(sum))
+}
+
+fn too_many(lines: &[Share]) -> bool
+    ensures { λ r. ⌜ r ≡ ltb mostLines (length (now (lines .entry))) ⌝ }
+{
+    lines.len() > MOST_LINES
+}
+
+fn too_large(line: Share) -> bool
+    ensures { λ r. ⌜ r ≡ ltb largestLine (line .lots .0) ⌝ }
+{
+    line.lots.0 > LARGEST_LINE
+}
+
+fn above(total: Lots, sum: u64) -> bool
+    ensures { λ r. ⌜ r ≡ ltb sum (total .0) ⌝ }
+{
+    total.0 > sum
 }

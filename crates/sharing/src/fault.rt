@@ -3,7 +3,7 @@ ghost use Rattle.sharing.specs.Refusals.{codeOf};
 use units::RefusalCode;
 
 /// Why nothing is shared out.
-#[derive(Clone, Copy, PartialEq, Eq, Debug)]
+#[derive(Clone, Copy)]
 pub enum SharingFault {
     /// There are over 512 lines.
     TooManyLines,

@@ -1,6 +1,5 @@
 //! How a total is shared out among the lines of one price level: what every sharing rule promises, and two rules.
 
-mod any_rule;
 mod by_time;
 mod check;
 mod fault;
@@ -9,16 +8,12 @@ mod rule;
 mod shares;
 mod worked;
 
-pub use any_rule::share_out;
 pub use by_time::ByTime;
 pub use by_time::ByTimeRule;
 pub use check::LARGEST_LINE;
 pub use check::MOST_LINES;
 pub use check::checked_sum;
 pub use fault::SharingFault;
-pub use fault::SharingFaultDebug;
-pub use fault::SharingFaultEq;
-pub use fault::SharingFaultPartialEq;
 pub use pro_rata::ProRata;
 pub use pro_rata::ProRataRule;
 pub use rule::SharingRule;

@@ -10,11 +10,11 @@ pub loop-i-holds : need.loop-i-holds
 loop-i-holds g c = at-drop-all (allAfter (g .T·Ranked .after) (c .args .line .now)) (c .args .lines .now) (length (c .args .lines .now)) (omega arith)
 
 pub loop-i-again : need.loop-i-again
-loop-i-again g c = all-further (g .T·Ranked .after) (c .args .line .now) (c .args .lines .now) (c .loop-i .i) (c .index-lines-i .result) (omega arith) (omega arith) (c .index-lines-i .is) (sym (c .if-not-ranks-after .ensures tt)) (c .loop-i .inv)
+loop-i-again g c = all-further (g .T·Ranked .after) (c .args .line .now) (c .args .lines .now) (c .loop-i .i) (c .index-lines-i .result) (omega arith) (omega arith) (c .index-lines-i .is) (sym (c .if-not-goes-in-front .ensures tt)) (c .loop-i .inv)
 
-pub returns-then-not-ranks-after : need.returns-then-not-ranks-after
-returns-then-not-ranks-after g c =
-    let e = position-found (g .T·Ranked .after) (c .args .line .now) (c .args .lines .now) (c .loop-i .i) (c .index-lines-i .result) (omega arith) (omega arith) (c .index-lines-i .is) (sym (c .if-not-ranks-after .ensures tt)) (c .loop-i .inv) in
+pub returns-then-not-goes-in-front : need.returns-then-not-goes-in-front
+returns-then-not-goes-in-front g c =
+    let e = position-found (g .T·Ranked .after) (c .args .line .now) (c .args .lines .now) (c .loop-i .i) (c .index-lines-i .result) (omega arith) (omega arith) (c .index-lines-i .is) (sym (c .if-not-goes-in-front .ensures tt)) (c .loop-i .inv) in
     record { within = omega arith; value = omega (arith, e) }
 
 pub returns : need.returns

@@ -1,7 +1,7 @@
-use native.Mathlib.Omega.{arith}
 use Prim.Native.Nat.{ℕ, _+_, _<_}
 use lib.ListN.{length}
 use mathlib.Core.Path.{_≡_, refl, sym, ap, subst, _∙_}
+use Rattle.std.proofs.shelf.Tests.{ltb-true}
 use Rattle.ordered_list.specs.Order.{inOrder, RightPosition}
 use Rattle.ordered_list.specs.Lists.{listOf, insertList, insertMemory}
 use Rattle.ordered_list.proofs.Laws.{Lawful}
@@ -16,7 +16,7 @@ returns g c =
     let xs = c .args .self .now .lines .now in
     let line = c .args .line in
     let at = c .insert-into-at .ensures .answer in
-    let room : len < length xs = omega arith in
+    let room = ltb-true len (length xs) (sym (c .if-not-has-room .ensures tt)) in
     let r = insert-room after len xs line room in
     let memory : c .insert-into-at .last .lines ≡ insertMemory after len xs line = let a = c .insert-into-at .ensures .after in let b = r .1 in cc in
     let list : listOf (len + 1) (c .insert-into-at .last .lines) ≡ insertList after len xs line = let l = list-insert after len xs line in let n = r .2 in cc in
