@@ -1,16 +1,15 @@
 -- What a change asks of the account alone is what it asks of all accounts, and it keeps the totals within their bounds.
 use Prim.Native.Nat.{ℕ, _+_, _≤_}
 use mathlib.Core.Path.{_≡_, refl, sym, ap, subst, _∙_}
-use mathlib.Core.Bool.{Bool, true, false, cond}
+use mathlib.Core.Bool.{Bool, true, false}
 use mathlib.Core.List.{List}
-use mathlib.Core.Logic.{inl, inr}
 use native.Mathlib.Omega.{arith}
 use lib.Dec.{leb}
 use lib.ListN.{length}
 use Rattle.std.specs.Vec.{made}
 use Rattle.std.specs.declared.result.Result.{Result}
 use Rattle.std.specs.declared.result.Result.the-variants.{Ok, Err}
-use Rattle.std.proofs.shelf.Tests.{leb-true, le-leb, cases-bool}
+use Rattle.std.proofs.shelf.Tests.{leb-true, le-leb}
 use Rattle.units.specs.Answers.{check, given}
 use Rattle.units.specs.Ranges.{isParticipant}
 use Rattle.units.specs.declared.participant.Participant.{Participant}
@@ -22,11 +21,10 @@ use Rattle.account_store.specs.declared.change.Change.{Change}
 use Rattle.account_store.specs.declared.change.Change.the-variants.{Block, Release, Gain, Lose, Surrender}
 use Rattle.depository.specs.declared.fault.DepositoryFault.{DepositoryFault}
 use Rattle.depository.specs.declared.fault.DepositoryFault.the-variants.{NoParticipant, FreeTooSmall, BlockedTooSmall, PastTotal}
-use Rattle.depository.specs.declared.held.Holdings.{Holdings}
-use Rattle.depository.specs.Accounts.{inAll, lotsHeld, moneyHeld, Within, of, changed}
-use Rattle.depository.specs.Amounts.{size, freeOf, blockedOf, heldOf, mostOf, partOf, hasFree, hasBlocked, blocking, releasing, losing, surrendering}
+use Rattle.depository.specs.Accounts.{Within, of, changed}
+use Rattle.depository.specs.Amounts.{size, freeOf, blockedOf, heldOf, mostOf, hasFree, hasBlocked, blocking, releasing, losing, surrendering}
 use Rattle.depository.specs.Calls.{balancesAnswer}
-use Rattle.account_store.specs.Changes.{changing, decided, afterAnswer, roomAnswer}
+use Rattle.account_store.specs.Changes.{decided, afterAnswer, roomAnswer}
 use Rattle.depository.proofs.Totals.{HoldsNoMore, within-one, within-changed, free-gained, within-gained}
 
 blocking-holds : (x : Amount) (a : Account) → hasFree x a ≡ true → HoldsNoMore (blocking x a) a

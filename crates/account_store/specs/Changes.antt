@@ -3,7 +3,7 @@ use Prim.Native.Nat.{_+_}
 use mathlib.Core.List.{List}
 use lib.Dec.{leb}
 use Rattle.std.specs.declared.result.Result.{Result}
-use Rattle.std.specs.declared.result.Result.the-variants.{Ok, Err}
+use Rattle.std.specs.declared.result.Result.the-variants.{Ok}
 use Rattle.units.specs.Answers.{check, ifOk, given}
 use Rattle.units.specs.Ranges.{isParticipant}
 use Rattle.units.specs.declared.participant.Participant.{Participant}

@@ -1,6 +1,7 @@
 ghost use mathlib.Core.Path.{_≡_};
+ghost use Rattle.units.specs.Answers.{given};
 ghost use Rattle.units.specs.Worth.{worth};
-ghost use Rattle.ordered_list.specs.Lists.{insertMemory};
+ghost use Rattle.ordered_list.specs.Lists.{insertAnswer, insertMemory, insertLen};
 ghost use Rattle.allotment.specs.Bids.{queueOrder, savedBy, leftOver, settleAnswer, settleAfter};
 use super::bid::Bid;
 use super::bid::QueueOrder;
@@ -17,7 +18,8 @@ use units::Price;
 
 /// Puts a bid into the queue, whose first `len` places are taken, and answers how many are taken then.
 pub(crate) fn queue(memory: &mut [Bid], len: usize, bid: Bid) -> Result<usize, ListFault>
-    ensures { λ _. ⌜ now (memory .exit) ≡ insertMemory queueOrder len (now (memory .entry)) bid ⌝ }
+    ensures answer { λ r. ⌜ r ≡ given (insertAnswer queueOrder len (now (memory .entry)) bid) (insertLen len (now (memory .entry))) ⌝ }
+    ensures after { λ _. ⌜ now (memory .exit) ≡ insertMemory queueOrder len (now (memory .entry)) bid ⌝ }
 {
     let mut list = OrderedList::over(memory, len);
     let placed = list.insert(bid);

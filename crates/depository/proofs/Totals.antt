@@ -1,12 +1,11 @@
 -- A figure added up over all accounts, and what a change of one account does to it.
 use Prim.Native.Nat.{ℕ, zero, suc, _+_, _-_, _≤_, _<_}
-use mathlib.Core.Path.{_≡_, refl, sym, ap, subst, _∙_}
-use mathlib.Core.Bool.{Bool, true}
+use mathlib.Core.Path.{_≡_, refl, ap, _∙_}
+use mathlib.Core.Bool.{true}
 use mathlib.Core.List.{List, [], _∷_}
 use native.Mathlib.Omega.{arith}
 use lib.ListN.{length, getD, set, drop}
-use Rattle.std.specs.declared.result.Result.{Result}
-use Rattle.std.specs.declared.result.Result.the-variants.{Ok, Err}
+use Rattle.std.specs.declared.result.Result.the-variants.{Ok}
 use Rattle.std.proofs.shelf.Tests.{and-parts, leb-true}
 use Rattle.std.proofs.shelf.Lists.{at-drop-more}
 use Rattle.units.specs.Ranges.{isParticipant}
@@ -88,3 +87,9 @@ room-surrendered xs w long p known (Lots n) h =
     omega (arith, in-all-set lotsHeld xs (p .0 - 1) (surrendering (Lots n) (of xs p)) (place-known xs long p known), leb-true _ _ h)
 room-surrendered xs w long p known (Money n) h =
     omega (arith, in-all-set moneyHeld xs (p .0 - 1) (surrendering (Money n) (of xs p)) (place-known xs long p known), leb-true _ _ h)
+
+-- what is added up so far, with the next account, is within the bound of all
+pub next-within : (figure : Account → ℕ) (xs : List Account) (i : ℕ) (a : Account) (sum most : ℕ) → i < length xs →
+    Ok a ≡ balancesAnswer xs (record { 0 = i + 1 }) → sum + inAll figure (drop i xs) ≡ inAll figure xs → inAll figure xs ≤ most →
+    sum + figure a ≤ most
+next-within figure xs i a sum most lt e so-far bound = omega (arith, in-all-next figure xs i a lt e)

@@ -1,21 +1,19 @@
 -- The entries of a sparse depository: what stays true as one comes and goes, and what they say of a participant.
 use Prim.Native.Nat.{ℕ, zero, suc, _+_, _-_, _≤_, _<_}
 use mathlib.Core.Path.{_≡_, refl, sym, ap, subst, _∙_}
-use mathlib.Core.Bool.{Bool, true, false, cond, not, _&&_}
-use mathlib.Core.List.{List, [], _∷_, _++_, map}
+use mathlib.Core.Bool.{Bool, true, false, cond}
+use mathlib.Core.List.{List, [], _∷_}
 use mathlib.Core.Logic.{inl, inr}
 use native.Mathlib.Omega.{arith}
-use lib.Dec.{eqb, leb, ltb}
-use lib.ListN.{length, getD, set, take, drop, replicate}
+use lib.Dec.{eqb}
+use lib.ListN.{length, getD, set, take, replicate}
 use Rattle.std.specs.Holes.{inserted, removed}
-use Rattle.std.specs.Iters.{counting}
 use Rattle.std.proofs.shelf.Counted.{length-map-counting, getD-map-counting}
 use Rattle.std.proofs.shelf.Lists.{ext-getD, length-take, getD-take, length-set, getD-set-same, getD-set-other}
-use Rattle.std.proofs.shelf.Tests.{and-parts, and-from, and-left, leb-true, le-leb, lt-ltb, le-ltb, eqb-true, eqb-false, eq-eqb, ne-eqb, cases-eq, cases-lt, cases-bool, cond-true, cond-false, not-true, not-from-false, both-ways}
+use Rattle.std.proofs.shelf.Tests.{and-parts, and-from, and-left, leb-true, le-leb, lt-ltb, le-ltb, eqb-true, eqb-false, eq-eqb, ne-eqb, cases-eq, cases-lt, cases-bool, cond-true, cond-false, not-from-false}
 use Rattle.units.specs.Ranges.{isParticipant}
 use Rattle.units.specs.declared.participant.Participant.{Participant}
 use Rattle.ordered_list.specs.Order.{allAfter, positionOf, placed}
-use Rattle.ordered_list.proofs.Placed.{length-placed}
 use Rattle.depository.specs.declared.account.Account.{Account}
 use Rattle.sparse_depository.specs.declared.entry.AccountEntry.{AccountEntry}
 use Rattle.depository.specs.Accounts.{account, empty, isEmpty, Within, of, changed}

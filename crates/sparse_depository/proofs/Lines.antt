@@ -1,12 +1,12 @@
 -- The ordered list of entries, as the sparse depository uses it.
 use Prim.Native.Nat.{ℕ, _+_, _-_, _≤_, _<_, min}
 use mathlib.Core.Path.{_≡_, sym, ap, subst, _∙_}
-use mathlib.Core.Bool.{true, false, cond}
+use mathlib.Core.Bool.{true, false}
 use mathlib.Core.List.{List}
 use native.Mathlib.Omega.{arith}
 use lib.ListN.{length, getD, take}
 use Rattle.std.specs.Holes.{removed}
-use Rattle.std.proofs.shelf.Lists.{length-take, length-take-le}
+use Rattle.std.proofs.shelf.Lists.{length-take-le}
 use Rattle.std.proofs.shelf.Tests.{cond-both, cond-true, cond-false, ltb-true, lt-ltb}
 use Rattle.units.specs.declared.participant.Participant.{Participant}
 use Rattle.ordered_list.specs.Lists.{listOf, hasRoom, hasPosition, insertList, insertLen, removeLen}

@@ -1,7 +1,6 @@
 use native.Mathlib.Omega.{arith}
-use mathlib.Core.Path.{_≡_, sym}
+use mathlib.Core.Path.{sym}
 use lib.ListN.{length, getD, take}
-use Rattle.std.specs.shelf.Lists.{All}
 use Rattle.std.proofs.shelf.Lists.{length-map, length-take}
 use Rattle.std.proofs.shelf.Sums.{sumBy-more, sumBy-le}
 use Rattle.std.proofs.shelf.Elements.{all-more}

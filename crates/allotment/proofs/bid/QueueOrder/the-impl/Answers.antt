@@ -1,4 +1,4 @@
-use Rattle.ordered_list.specs.Keys.{upward, downward, thenBy}
+use Rattle.ordered_list.specs.Keys.{upward, downward}
 use Rattle.ordered_list.proofs.Keys.{upward-lawful, downward-lawful, then-lawful}
 use Rattle.ordered_list.proofs.Laws.{Lawful}
 use Rattle.allotment.specs.declared.bid.Bid.{Bid}
