@@ -4,7 +4,7 @@
 usage: python3 tools/respell.py [FOLDER]    (the top of a checkout; default: the current one)
 
 Run once, after the kit's port.py. A word of the table is turned where it stands whole: in .antt files, and, where it is in
-mixed case, in .rt files too (Rust names are never in mixed case, so these stand only in clauses, ghost items and comments).
+mixed case or has a dash, in .rt files too (Rust names are neither, so these stand only in clauses, ghost items and comments).
 A word with a dash is left alone in comments, where it may be plain English, and a word in snake case is turned in .antt files only.
 """
 
@@ -15,7 +15,6 @@ import sys
 HERE = os.path.dirname(os.path.realpath(__file__))
 WORD = re.compile(r'[^\s(){}.;,@"«»]+')
 COMMENT = re.compile(r"(?<!\S)--[^\n]*")
-MIXED = re.compile(r"[a-z]+[A-Z]\w*$")
 IN_TEXT = re.compile(r"(?<![\w-])[a-z]+[A-Z]\w*(?![\w-])")
 
 
@@ -27,6 +26,12 @@ def turn_antt(text, table):
         at = comment.end()
     parts.append(WORD.sub(lambda m: table.get(m[0], m[0]), text[at:]))
     return "".join(parts)
+
+
+def turn_rt(text, table):
+    dashed = {old: new for old, new in table.items() if "-" in old}
+    lines = [line.partition("//") for line in turn_text(text, table).split("\n")]
+    return "\n".join(WORD.sub(lambda m: dashed.get(m[0], m[0]), code) + mark + comment for code, mark, comment in lines)
 
 
 def turn_text(text, table):
@@ -44,7 +49,7 @@ def main(top):
                 continue
             with open(path, encoding="utf-8") as source:
                 old = source.read()
-            new = turn_antt(old, table) if name.endswith(".antt") else turn_text(old, table)
+            new = turn_antt(old, table) if name.endswith(".antt") else turn_rt(old, table)
             if new != old:
                 with open(path, "w", encoding="utf-8") as target:
                     target.write(new)

@@ -1,3 +1,5 @@
+#![tactic(auto)]
+
 //! What a depository is made of. Who writes one keeps the accounts in memory of their own and brings one write,
 //! `AccountStore::apply`; what a change makes of an account (`decide`), and a delivery made of changes (`deliver`), are
 //! here once for all.

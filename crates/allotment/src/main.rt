@@ -1,3 +1,5 @@
+#![tactic(auto)]
+
 //! One over-subscribed price level from pay-in to final balances: 33 lots are offered at 100, and 50, 30 and 20 lots are
 //! bid for at 103. It is shared out by both rules, over both depositories.
 

@@ -1,3 +1,5 @@
+#![tactic(auto)]
+
 //! The commands of a tape: their layout as bytes, and reading the one at the tape's front.
 
 mod command;

@@ -1,3 +1,5 @@
+#![tactic(auto)]
+
 //! What participants hold: what every depository means and promises.
 
 mod account;

@@ -1,3 +1,5 @@
+#![tactic(auto)]
+
 //! Reads a tape from standard input, runs it, and prints the result.
 
 use report::{lines_of, refusal_line};

@@ -1,3 +1,5 @@
+#![tactic(auto)]
+
 //! Runs of the layers on cases worked out by hand.
 
 #[cfg(test)]

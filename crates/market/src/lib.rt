@@ -1,3 +1,5 @@
+#![tactic(auto)]
+
 //! The words of the session: orders, queues, deals, calls and their answers. What they mean, what each call gives and what
 //! holds after every run of calls is in specs/.
 

@@ -1,3 +1,5 @@
+#![tactic(auto)]
+
 //! One list for lines of any kind that have an order, kept in memory that the caller lends.
 
 mod edit;

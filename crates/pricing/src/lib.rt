@@ -1,3 +1,5 @@
+#![tactic(auto)]
+
 //! What two queues of waiting orders say of prices: the best limit, the summary of what can deal at each limit, and the
 //! cut-off.
 

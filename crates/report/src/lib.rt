@@ -1,3 +1,5 @@
+#![tactic(auto)]
+
 //! The text of a result: a line for each answer, deal and cancellation, fields in decimal with one space between.
 
 mod line;

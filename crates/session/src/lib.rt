@@ -1,3 +1,5 @@
+#![tactic(auto)]
+
 //! A session over any depository: it gathers orders, strikes one price, and annuls.
 
 mod annulling;

@@ -1,3 +1,5 @@
+#![tactic(auto)]
+
 //! Tests of the session on the compiled code, at its edges, over both depositories.
 
 #[cfg(test)]

@@ -2,7 +2,7 @@ ghost use Rattle.std.specs.Prelude.{◌≡◌, ◌≤◌};
 ghost use Rattle.sharing.specs.Shares.{lots_of, filled};
 ghost use Rattle.sharing.specs.ByTime.{by_time};
 ghost use Rattle.std.proofs.lemmas.List.Elements.{length_all_zip};
-ghost use Rattle.sharing.specs.TimeLaws.{time-within, time-whole};
+ghost use Rattle.sharing.specs.TimeLaws.{time_within, time_whole};
 
 use super::check::checked_sum;
 use super::fault::SharingFault;
@@ -17,11 +17,11 @@ pub struct ByTime;
 impl SharingRule for ByTime {
     ghost shares = { λ _. by_time };
 
-    ghost each = { λ rule lots total a. length_all_zip ◌≤◌ (by_time lots total) lots (time-within lots total) };
+    ghost each = { λ rule lots total a. length_all_zip ◌≤◌ (by_time lots total) lots (time_within lots total) };
 
-    ghost within = { λ rule lots total a. time-within lots total };
+    ghost within = { λ rule lots total a. time_within lots total };
 
-    ghost whole = { λ rule lots total a. time-whole lots total a.reached };
+    ghost whole = { λ rule lots total a. time_whole lots total a.reached };
 
     fn share(&self, lines: &mut [Share], total: Lots) -> Result<(), SharingFault> {
         checked_sum(lines, total)?;

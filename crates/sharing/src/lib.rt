@@ -1,3 +1,5 @@
+#![tactic(auto)]
+
 //! How a total is shared out among the lines of one price level: what every sharing rule promises, and two rules.
 
 mod by_time;

@@ -2,7 +2,7 @@ ghost use Rattle.std.specs.Prelude.{◌≡◌, ◌+◌, ◌*◌, ◌^◌, ◌<�
 ghost use Rattle.sharing.specs.Shares.{lots_of, shares_of, filled, Accepted};
 ghost use Rattle.sharing.specs.ProRata.{first_share, first_shares, room_for, topped_up, pro_rata};
 ghost use Rattle.std.proofs.lemmas.List.Elements.{length_all_zip};
-ghost use Rattle.sharing.specs.RataLaws.{rata-within, rata-whole};
+ghost use Rattle.sharing.specs.RataLaws.{rata_within, rata_whole};
 
 use super::check::checked_sum;
 use super::fault::SharingFault;
@@ -18,11 +18,11 @@ pub struct ProRata;
 impl SharingRule for ProRata {
     ghost shares = { λ _. pro_rata };
 
-    ghost each = { λ rule lots total a. length_all_zip ◌≤◌ (pro_rata lots total) lots (rata-within lots total a.reached) };
+    ghost each = { λ rule lots total a. length_all_zip ◌≤◌ (pro_rata lots total) lots (rata_within lots total a.reached) };
 
-    ghost within = { λ rule lots total a. rata-within lots total a.reached };
+    ghost within = { λ rule lots total a. rata_within lots total a.reached };
 
-    ghost whole = { λ rule lots total a. rata-whole lots total a.reached };
+    ghost whole = { λ rule lots total a. rata_whole lots total a.reached };
 
     fn share(&self, lines: &mut [Share], total: Lots) -> Result<(), SharingFault> {
         let offered = checked_sum(lines, total)?;

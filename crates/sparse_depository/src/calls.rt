@@ -3,7 +3,7 @@ ghost use Rattle.units.specs.Ranges.{is_participant};
 ghost use Rattle.depository.specs.Accounts.{of, changed, Within};
 ghost use Rattle.depository.specs.declared.account.Account.{Account};
 ghost use Rattle.sparse_depository.specs.Entries.{accounts_of};
-ghost use Rattle.sparse_depository.specs.EntriesLemmas.{length-accounts};
+ghost use Rattle.sparse_depository.specs.EntriesLemmas.{length_accounts};
 ghost use Rattle.std.proofs.Common.{rules, arith};
 
 use super::exchange::{exchange, position_of};
@@ -16,7 +16,7 @@ use units::{Lots, Money, Participant};
 impl AccountBook for SparseDepository {
     ghost accounts = { λ s. accounts_of (take s.count s.entries) };
 
-    ghost everyone = { λ s. length-accounts (take s.count s.entries) };
+    ghost everyone = { λ s. length_accounts (take s.count s.entries) };
 
     ghost within = { first_of (Prim.search rules, Prim.grind (arith, Self.row.coded.inj)) };
 

@@ -1,3 +1,5 @@
+#![tactic(auto)]
+
 //! A depository that has entries only for those who hold something, in an ordered list.
 
 mod calls;

@@ -1,3 +1,5 @@
+#![tactic(auto)]
+
 //! A depository that has a place for every participant.
 
 mod calls;

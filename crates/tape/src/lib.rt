@@ -1,3 +1,5 @@
+#![tactic(auto)]
+
 //! Runs a tape: reads its commands one after the other, makes them, and answers each.
 
 mod answer;

@@ -1,3 +1,5 @@
+#![tactic(auto)]
+
 //! Runs whole tapes and compares the lines of the result.
 
 #[cfg(test)]

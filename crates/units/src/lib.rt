@@ -1,3 +1,5 @@
+#![tactic(auto)]
+
 //! Prices, lots, money, sides, participants, and the code that a refusal carries.
 
 mod participant;
