@@ -37,8 +37,8 @@ impl Holdings {
 
 /// What all participants together hold, free and blocked.
 pub fn held_in_all<B: AccountBook>(book: &B) -> Holdings
-    ensures lots { result.lots.0 ≡ in_all lots_held (accounts book.now) }
-    ensures money { result.money.0 ≡ in_all money_held (accounts book.now) }
+    ensures lots { result.lots.0 ≡ in_all lots_held (B.AccountBook.accounts book.now) }
+    ensures money { result.money.0 ≡ in_all money_held (B.AccountBook.accounts book.now) }
 {
     let mut held = Holdings {
         lots: Lots(0),

@@ -7,14 +7,14 @@ use Rattle.command.proofs.six_bytes.with_six_bytes.Goals as goal
 pub returns-in-1 : goal.returns-in-1
 returns-in-1 c =
     arm c.args.tape.now 1 (omega arith) refl c.requires.long
-    (of_two PayInLots c.participant-of-participant.ensures c.lots-of-lots.ensures)
+    (of_two PayInLots c.participant_of-participant.ensures c.lots_of-lots.ensures)
 
 pub returns-in-33 : goal.returns-in-33
 returns-in-33 c =
     arm c.args.tape.now 33 (omega arith) refl c.requires.long
-    (of_two (λ p n. Add p Sell n) c.participant-of-participant-in-33.ensures c.lots-of-lots-in-33.ensures)
+    (of_two (λ p n. Add p Sell n) c.participant_of-participant-in-33.ensures c.lots_of-lots_in-33.ensures)
 
 pub returns-in-34 : goal.returns-in-34
 returns-in-34 c =
     arm c.args.tape.now 34 (omega arith) refl c.requires.long
-    (of_two (λ p n. Add p Buy n) c.participant-of-participant-in-34.ensures c.lots-of-lots-in-34.ensures)
+    (of_two (λ p n. Add p Buy n) c.participant_of-participant-in-34.ensures c.lots_of-lots_in-34.ensures)

@@ -5,26 +5,26 @@ use Rattle.depository.specs.Accounts.{in_all, lots_held, money_held}
 use Rattle.depository.proofs.Totals.{in_all_next, next_within}
 use Rattle.depository.proofs.held.held_in_all.Goals as goal
 
-pub overflow-add-held : goal.overflow-add-held
-overflow-add-held g c =
+pub overflow_add-held : goal.overflow_add-held
+overflow_add-held g c =
     let d = c.args.book.now in
     let long = g.met.B.AccountBook.everyone d in
     omega (arith, next_within lots_held (g.B.AccountBook.accounts d) c.loop-i.i c.in-Ok.account _ most_lots (omega arith) c.in-Ok.ensures c.loop-i.invariant.0 (g.met.B.AccountBook.within d).0)
 
-pub overflow-add-held-in-Ok : goal.overflow-add-held-in-Ok
-overflow-add-held-in-Ok g c =
+pub overflow_add-held-in-Ok : goal.overflow_add-held-in-Ok
+overflow_add-held-in-Ok g c =
     let d = c.args.book.now in
     let long = g.met.B.AccountBook.everyone d in
     omega (arith, next_within lots_held (g.B.AccountBook.accounts d) c.loop-i.i c.in-Ok.account _ most_lots (omega arith) c.in-Ok.ensures c.loop-i.invariant.0 (g.met.B.AccountBook.within d).0)
 
-pub overflow-add-held-in-Ok-2 : goal.overflow-add-held-in-Ok-2
-overflow-add-held-in-Ok-2 g c =
+pub overflow_add-held-in-Ok-2 : goal.overflow_add-held-in-Ok-2
+overflow_add-held-in-Ok-2 g c =
     let d = c.args.book.now in
     let long = g.met.B.AccountBook.everyone d in
     omega (arith, next_within money_held (g.B.AccountBook.accounts d) c.loop-i.i c.in-Ok.account _ most_money (omega arith) c.in-Ok.ensures c.loop-i.invariant.1 (g.met.B.AccountBook.within d).1)
 
-pub overflow-add-held-in-Ok-3 : goal.overflow-add-held-in-Ok-3
-overflow-add-held-in-Ok-3 g c =
+pub overflow_add-held-in-Ok-3 : goal.overflow_add-held-in-Ok-3
+overflow_add-held-in-Ok-3 g c =
     let d = c.args.book.now in
     let long = g.met.B.AccountBook.everyone d in
     omega (arith, next_within money_held (g.B.AccountBook.accounts d) c.loop-i.i c.in-Ok.account _ most_money (omega arith) c.in-Ok.ensures c.loop-i.invariant.1 (g.met.B.AccountBook.within d).1)

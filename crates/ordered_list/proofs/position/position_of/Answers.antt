@@ -8,11 +8,11 @@ pub loop-i-init : goal.loop-i-init
 loop-i-init g c = at_drop_all (all_after_lem g.T.Ranked.after c.args.line.now) c.args.lines.now (length c.args.lines.now) (omega arith)
 
 pub loop-i-preserved : goal.loop-i-preserved
-loop-i-preserved g c = all-further g.T.Ranked.after c.args.line.now c.args.lines.now c.loop-i.i c.index-lines-i.result (omega arith) (omega arith) c.index-lines-i.is (sym c.if-not-goes-in-front.ensures) c.loop-i.invariant
+loop-i-preserved g c = all-further g.T.Ranked.after c.args.line.now c.args.lines.now c.loop-i.i c.index-lines-i.result (omega arith) (omega arith) c.index-lines-i.is (sym c.if-not-goes_in_front.ensures) c.loop-i.invariant
 
-pub returns-then-not-goes-in-front : goal.returns-then-not-goes-in-front
-returns-then-not-goes-in-front g c =
-    let e = position_found g.T.Ranked.after c.args.line.now c.args.lines.now c.loop-i.i c.index-lines-i.result (omega arith) (omega arith) c.index-lines-i.is (sym c.if-not-goes-in-front.ensures) c.loop-i.invariant in
+pub returns-then-not-goes_in_front : goal.returns-then-not-goes_in_front
+returns-then-not-goes_in_front g c =
+    let e = position_found g.T.Ranked.after c.args.line.now c.args.lines.now c.loop-i.i c.index-lines-i.result (omega arith) (omega arith) c.index-lines-i.is (sym c.if-not-goes_in_front.ensures) c.loop-i.invariant in
     record { within = omega arith; value = omega (arith, e) }
 
 pub returns : goal.returns

@@ -5,4 +5,4 @@ use Rattle.pricing.proofs.best_limit.best.Goals as goal
 pub returns-in-len1-up : goal.returns-in-len1-up
 returns-in-len1-up c =
     let l : 0 < length c.args.queue.now = search rules in
-    λ side h. best_found side c.args.queue.now c.front-level.result.lots l h c.front-level.ensures.lots
+    λ side h. best_found side c.args.queue.now c.front_level.result.lots l h c.front_level.ensures.lots

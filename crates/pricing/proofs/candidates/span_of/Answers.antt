@@ -5,21 +5,21 @@ use Rattle.pricing.specs.Lines.{price_of}
 use Rattle.pricing.proofs.Blank.{no_line}
 use Rattle.pricing.proofs.Keeping.{kept_more_yes, kept_more_no, kept_all}
 use Rattle.pricing.proofs.candidates.span_of.Goals as goal
-use Rattle.pricing.proofs.candidates.span_of.Goals.{then-has-figures, else-has-figures}
+use Rattle.pricing.proofs.candidates.span_of.Goals.{then-has_figures, else-has_figures}
 
 pub loop-line-preserved : goal.loop-line-preserved
 loop-line-preserved c =
     let lines = c.args.lines.now in
     let i = c.loop-line.line-index in
     let t = has_figures c.args.volume c.args.imbalance in
-    elim c.if-has-figures.branch [
-      | then-has-figures w ↦
-          let k = kept_more_yes t lines i no_line c.loop-line-test.true (sym w.if-has-figures.ensures) in
+    elim c.if-has_figures.branch [
+      | then-has_figures w ↦
+          let k = kept_more_yes t lines i no_line c.loop-line-test.true (sym w.if-has_figures.ensures) in
           let a = ap (λ ls. last_or c.loop-line.low (map price_of ls)) k in
           let b = ap (λ ls. highest (map price_of ls)) k in
           (rw w.low-is (sym a ∙ c.loop-line.invariant.0), omega (arith, b, w.high-is, w.max-high.ensures, c.loop-line.invariant.1))
-      | else-has-figures w ↦
-          let k = kept_more_no t lines i no_line c.loop-line-test.true (sym w.if-has-figures.ensures) in
+      | else-has_figures w ↦
+          let k = kept_more_no t lines i no_line c.loop-line-test.true (sym w.if-has_figures.ensures) in
           let a = ap (λ ls. last_or c.loop-line.low (map price_of ls)) k in
           let b = ap (λ ls. highest (map price_of ls)) k in
           (rw w.low-is (sym a ∙ c.loop-line.invariant.0), omega (arith, b, w.high-is, c.loop-line.invariant.1))

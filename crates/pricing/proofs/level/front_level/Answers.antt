@@ -15,8 +15,8 @@ loop-i-preserved c =
     let n = simp t at (at_drop_more (front_orders p) q i nothing c.loop-i-test.true) in
     let s = simp t at (at_drop_more (front_lots p) q i nothing c.loop-i-test.true) in (
       omega (arith, n, c.loop-i.invariant.0),
-      omega (arith, s, c.loop-i.invariant.1, c.saturating-add-lots.ensures),
-      omega (arith, c.saturating-add-lots.ensures),
+      omega (arith, s, c.loop-i.invariant.1, c.saturating_add-lots.ensures),
+      omega (arith, c.saturating_add-lots.ensures),
     )
 
 pub returns-then-entry-limit : goal.returns-then-entry-limit

@@ -7,8 +7,8 @@ use Rattle.pricing.proofs.level.lots_in.Goals as goal
 pub loop-entry-preserved : goal.loop-entry-preserved
 loop-entry-preserved c =
     let s = at_drop_more lots_in c.args.queue.now c.loop-entry.entry-index nothing c.loop-entry-test.true in (
-      omega (arith, s, c.loop-entry.invariant.0, c.saturating-add-lots.ensures),
-      omega (arith, c.saturating-add-lots.ensures),
+      omega (arith, s, c.loop-entry.invariant.0, c.saturating_add-lots.ensures),
+      omega (arith, c.saturating_add-lots.ensures),
     )
 
 pub returns : goal.returns

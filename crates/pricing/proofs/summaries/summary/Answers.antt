@@ -21,5 +21,5 @@ returns c =
     let memory = c.walk-count.new.memory in
     let r = c.walk-count.result in
     let w = λ (q : Queues sells buys). c.walk-count.ensures.lines q (omega arith) in
-    let g = λ (q : Queues sells buys). summary-given sells buys c.args.lines.now c.write-lines.new.lines (take r memory) r (lines_count sells buys memory r c.walk-count.ensures.within (w q)) c.if-count-lines.false (w q) c.write-lines.ensures in
+    let g = λ (q : Queues sells buys). summary-given sells buys c.args.lines.now c.write_lines.new.lines (take r memory) r (lines_count sells buys memory r c.walk-count.ensures.within (w q)) c.if-count-lines.false (w q) c.write_lines.ensures in
     record { answer = λ q. (g q).0; after = λ q. (g q).1 }

@@ -7,7 +7,7 @@ use Rattle.pricing.proofs.summaries.write_lines.Goals as goal
 pub loop-i-preserved : goal.loop-i-preserved
 loop-i-preserved c =
     let i = c.loop-i.i in
-    ap (set c.loop-i.lines i) c.summary-line.ensures ∙
+    ap (set c.loop-i.lines i) c.summary_line.ensures ∙
     written_more summary_of c.args.walked.now c.args.lines.now c.loop-i.lines i no_line c.loop-i-test.true (omega (arith, c.requires, c.loop-i-test.true)) c.loop-i.invariant
 
 pub returns : goal.returns

@@ -14,23 +14,23 @@ loop-price-init c = (
   omega arith,
   omega arith,
   omega arith,
-  λ sells e q m. walk_starts sells c.args.bids.now c.args.offers.now c.lots-in-supply.result.0 e q
-      (omega (arith, c.lots-in-supply.ensures, ap lots_in e, total-reverse lots_of sells, q.of_sells.bounded)),
+  λ sells e q m. walk_starts sells c.args.bids.now c.args.offers.now c.lots_in-supply.result.0 e q
+      (omega (arith, c.lots_in-supply.ensures, ap lots_in e, total-reverse lots_of sells, q.of_sells.bounded)),
 )
 
-pub overflow-add-i : goal.overflow-add-i
-overflow-add-i c =
+pub overflow_add-i : goal.overflow_add-i
+overflow_add-i c =
     let os = c.args.offers.now in
     let i = c.loop-price.i in
     let p = c.in-Some.price.0 in
-    omega (arith, level_within p i c.front-level-offered.result.orders os c.loop-price.invariant.0 (c.front-level-offered.ensures.orders ∙ from_on (front_orders p) os i))
+    omega (arith, level_within p i c.front_level-offered.result.orders os c.loop-price.invariant.0 (c.front_level-offered.ensures.orders ∙ from_on (front_orders p) os i))
 
-pub overflow-add-j : goal.overflow-add-j
-overflow-add-j c =
+pub overflow_add-j : goal.overflow_add-j
+overflow_add-j c =
     let bs = c.args.bids.now in
     let j = c.loop-price.j in
     let p = c.in-Some.price.0 in
-    omega (arith, level_within p j c.front-level-asked.result.orders bs c.loop-price.invariant.1 (c.front-level-asked.ensures.orders ∙ from_on (front_orders p) bs j))
+    omega (arith, level_within p j c.front_level-asked.result.orders bs c.loop-price.invariant.1 (c.front_level-asked.ensures.orders ∙ from_on (front_orders p) bs j))
 
 pub loop-price-smaller : goal.loop-price-smaller
 loop-price-smaller c =
@@ -39,10 +39,10 @@ loop-price-smaller c =
     let i = c.loop-price.i in
     let j = c.loop-price.j in
     let p = c.in-Some.price.0 in
-    let mo = c.front-level-offered.ensures.orders ∙ from_on (front_orders p) os i in
-    let mb = c.front-level-asked.ensures.orders ∙ from_on (front_orders p) bs j in
-    let wo = level_within p i c.front-level-offered.result.orders os c.loop-price.invariant.0 mo in
-    let wb = level_within p j c.front-level-asked.result.orders bs c.loop-price.invariant.1 mb in
+    let mo = c.front_level-offered.ensures.orders ∙ from_on (front_orders p) os i in
+    let mb = c.front_level-asked.ensures.orders ∙ from_on (front_orders p) bs j in
+    let wo = level_within p i c.front_level-offered.result.orders os c.loop-price.invariant.0 mo in
+    let wb = level_within p j c.front_level-asked.result.orders bs c.loop-price.invariant.1 mb in
     let n = next_some (drop i os) (drop j bs) c.in-Some.price (next_from (Some c.in-Some.price) os bs i j c.in-Some.ensures) in
     omega (arith, mo, mb, wo, wb, n)
 
@@ -53,25 +53,25 @@ loop-price-preserved c =
     let i = c.loop-price.i in
     let j = c.loop-price.j in
     let p = c.in-Some.price.0 in
-    let mo = c.front-level-offered.ensures.orders ∙ from_on (front_orders p) os i in
-    let mb = c.front-level-asked.ensures.orders ∙ from_on (front_orders p) bs j in
-    let wo = level_within p i c.front-level-offered.result.orders os c.loop-price.invariant.0 mo in
-    let wb = level_within p j c.front-level-asked.result.orders bs c.loop-price.invariant.1 mb in
+    let mo = c.front_level-offered.ensures.orders ∙ from_on (front_orders p) os i in
+    let mb = c.front_level-asked.ensures.orders ∙ from_on (front_orders p) bs j in
+    let wo = level_within p i c.front_level-offered.result.orders os c.loop-price.invariant.0 mo in
+    let wb = level_within p j c.front_level-asked.result.orders bs c.loop-price.invariant.1 mb in
     let t = next_from (Some c.in-Some.price) os bs i j c.in-Some.ensures in
     let n = next_some (drop i os) (drop j bs) c.in-Some.price t in
     let k = insert_le c.loop-price.len c.loop-price.memory c.loop-price.invariant.3 in (
       wo,
       wb,
-      omega (arith, mo, mb, n, k.0, c.add-line-len.ensures.answer, c.loop-price.invariant.2),
-      omega (arith, k.1, c.add-line-len.ensures.answer, c.add-line-len.auto.memory, c.loop-price.auto.memory),
-      λ sells e q m. walk_turn sells bs os i j c.loop-price.len c.loop-price.memory c.add-line-len.new.memory c.loop-price.supply c.loop-price.demand
-          c.saturating-sub-supply.result c.saturating-add-demand.result c.add-line-len.result c.front-level-offered.result.orders c.front-level-asked.result.orders
-          c.front-level-offered.result.lots.0 c.front-level-asked.result.lots.0 c.in-Some.price q
+      omega (arith, mo, mb, n, k.0, c.add_line-len.ensures.answer, c.loop-price.invariant.2),
+      omega (arith, k.1, c.add_line-len.ensures.answer, c.add_line-len.auto.memory, c.loop-price.auto.memory),
+      λ sells e q m. walk_turn sells bs os i j c.loop-price.len c.loop-price.memory c.add_line-len.new.memory c.loop-price.supply c.loop-price.demand
+          c.saturating_sub-supply.result c.saturating_add-demand.result c.add_line-len.result c.front_level-offered.result.orders c.front_level-asked.result.orders
+          c.front_level-offered.result.lots.0 c.front_level-asked.result.lots.0 c.in-Some.price q
           (omega (arith, mo, mb, wo, wb, n, c.loop-price.invariant.2, ap length e, length-reverse sells, q.of_sells.short, q.of_buys.short, c.loop-price.auto.memory))
           (c.loop-price.invariant.4 sells e q m) t mo mb
-          (c.front-level-offered.ensures.lots ∙ from_on (λ xs. min (front_lots p xs) (2 ^ 64 - 1)) os i)
-          (c.front-level-asked.ensures.lots ∙ from_on (λ xs. min (front_lots p xs) (2 ^ 64 - 1)) bs j)
-          c.saturating-add-demand.ensures c.saturating-sub-supply.ensures c.add-line-len.ensures.answer c.add-line-len.ensures.after,
+          (c.front_level-offered.ensures.lots ∙ from_on (λ xs. min (front_lots p xs) (2 ^ 64 - 1)) os i)
+          (c.front_level-asked.ensures.lots ∙ from_on (λ xs. min (front_lots p xs) (2 ^ 64 - 1)) bs j)
+          c.saturating_add-demand.ensures c.saturating_sub-supply.ensures c.add_line-len.ensures.answer c.add_line-len.ensures.after,
     )
 
 pub returns : goal.returns

@@ -4,8 +4,8 @@ use Rattle.report.proofs.text.append.Goals as goal
 
 pub loop-line-preserved : goal.loop-line-preserved
 loop-line-preserved g c =
-    let wrote = c.in-ok-push-str.ensures.bytes in
-    let line = c.as-str.ensures.value ∙ c.in-ok-line.ensures in
+    let wrote = c.in_ok-push_str.ensures.bytes in
+    let line = c.as_str.ensures.value ∙ c.in_ok-line.ensures in
     wrote ∙ ap (λ bs. string_bytes c.loop-line.text ++ bs) line
     ∙ next_line g.T.ResultLine.text (string_bytes c.args.text.now) (string_bytes c.loop-line.text) c.args.lines.now c.loop-line.line-index c.line-item.result c.loop-line-test.true c.line-item.is c.loop-line.invariant
 

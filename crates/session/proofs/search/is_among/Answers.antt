@@ -9,12 +9,12 @@ use Rattle.session.proofs.search.is_among.Goals as goal
 pub loop-order-preserved : goal.loop-order-preserved
 loop-order-preserved c =
     let test : Order → Bool = λ o. eqb o.number.0 c.args.number.0 && eqb o.participant.0 c.args.who.0 in
-    sym (some_more test c.args.orders.now c.loop-order.order-index no_order c.loop-order-test.true (sym c.if-is-of.ensures)) ∙ c.loop-order.invariant
+    sym (some_more test c.args.orders.now c.loop-order.order-index no_order c.loop-order-test.true (sym c.if-is_of.ensures)) ∙ c.loop-order.invariant
 
-pub returns-then-is-of : goal.returns-then-is-of
-returns-then-is-of c =
+pub returns-then-is_of : goal.returns-then-is_of
+returns-then-is_of c =
     let test : Order → Bool = λ o. eqb o.number.0 c.args.number.0 && eqb o.participant.0 c.args.who.0 in
-    sym (some_here test c.args.orders.now c.loop-order.order-index no_order c.loop-order-test.true (sym c.if-is-of.ensures)) ∙ c.loop-order.invariant
+    sym (some_here test c.args.orders.now c.loop-order.order-index no_order c.loop-order-test.true (sym c.if-is_of.ensures)) ∙ c.loop-order.invariant
 
 pub returns : goal.returns
 returns c =

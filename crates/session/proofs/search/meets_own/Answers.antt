@@ -9,12 +9,12 @@ use Rattle.session.proofs.search.meets_own.Goals as goal
 pub loop-entry-preserved : goal.loop-entry-preserved
 loop-entry-preserved c =
     let test : Resting → Bool = λ e. eqb (owner_of e) c.args.who.0 && meets c.args.side c.args.limit.0 (limit_of e) in
-    sym (some_more test c.args.queue.now c.loop-entry.entry-index no_entry c.loop-entry-test.true (sym c.if-is-own-and-meets.ensures)) ∙ c.loop-entry.invariant
+    sym (some_more test c.args.queue.now c.loop-entry.entry-index no_entry c.loop-entry-test.true (sym c.if-is_own_and_meets.ensures)) ∙ c.loop-entry.invariant
 
-pub returns-then-is-own-and-meets : goal.returns-then-is-own-and-meets
-returns-then-is-own-and-meets c =
+pub returns-then-is_own_and_meets : goal.returns-then-is_own_and_meets
+returns-then-is_own_and_meets c =
     let test : Resting → Bool = λ e. eqb (owner_of e) c.args.who.0 && meets c.args.side c.args.limit.0 (limit_of e) in
-    sym (some_here test c.args.queue.now c.loop-entry.entry-index no_entry c.loop-entry-test.true (sym c.if-is-own-and-meets.ensures)) ∙ c.loop-entry.invariant
+    sym (some_here test c.args.queue.now c.loop-entry.entry-index no_entry c.loop-entry-test.true (sym c.if-is_own_and_meets.ensures)) ∙ c.loop-entry.invariant
 
 pub returns : goal.returns
 returns c =

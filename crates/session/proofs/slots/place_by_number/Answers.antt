@@ -11,7 +11,7 @@ loop-entry-preserved c =
     let q = c.args.queue.now in
     let i = c.loop-entry.entry-index in
     let before = c.loop-entry.slots in
-    let slot = c.slot-of-slot.ensures in
+    let slot = c.slot_of-slot.ensures in
     elim c.if-slot-slots.branch [
       | then-slot-slots w ↦ slotted_more q before c.if-slot-slots.slots i no_entry c.loop-entry-test.true (w.slots-is ∙ ap (λ n. set before n (Some (get_or q i no_entry))) slot) ∙ c.loop-entry.invariant
       | else-slot-slots w ↦ slotted_past q before c.if-slot-slots.slots i no_entry c.loop-entry-test.true w.slots-is (omega (arith, w.if-slot-slots.false, slot)) ∙ c.loop-entry.invariant

@@ -12,8 +12,8 @@ pub loop-line-init : goal.loop-line-init
 loop-line-init c = (refl, refl, lines_small c.args.lines.now c.requires.accepted.small)
 
 -- a line's lots, times the total of as many lines as there may be, fit 64 bits
-pub first-share-part-requires : goal.first-share-part-requires
-first-share-part-requires c =
+pub first_share-part-requires : goal.first_share-part-requires
+first_share-part-requires c =
     let n = c.args.total.0 in
     let i = c.loop-line.line-index in
     let x = (get_or c.loop-line.lines i blank).lots.0 in
@@ -21,13 +21,13 @@ first-share-part-requires c =
     let t = total-small (lots_of c.args.lines.now) n c.requires.accepted in
     omega (arith, mul-le x n largest_line (most_lines * largest_line) a.0 t)
 
-pub overflow-add-given : goal.overflow-add-given
-overflow-add-given c =
+pub overflow_add-given : goal.overflow_add-given
+overflow_add-given c =
     let n = c.args.total.0 in
     let s = c.args.offered.0 in
     let i = c.loop-line.line-index in
     let w = given-within n s c.loop-line.lines c.args.lines.now i c.loop-line.given (omega arith) in
-    omega (arith, w c.requires.all c.requires.accepted.reached c.loop-line.invariant.1, c.first-share-part.ensures)
+    omega (arith, w c.requires.all c.requires.accepted.reached c.loop-line.invariant.1, c.first_share-part.ensures)
 
 pub loop-line-preserved : goal.loop-line-preserved
 loop-line-preserved c =
@@ -41,7 +41,7 @@ loop-line-preserved c =
     let w = walk_more (first-write n s) (first_next n s) xs i g blank h in
     let e = end_more (first-write n s) (first_next n s) xs i g y blank h in
     let a = ahead_more Small xs i y blank h c.loop-line.invariant.2 in
-    rw c.first-share-part.ensures (w ∙ c.loop-line.invariant.0, e ∙ c.loop-line.invariant.1, a.1)
+    rw c.first_share-part.ensures (w ∙ c.loop-line.invariant.0, e ∙ c.loop-line.invariant.1, a.1)
 
 pub returns : goal.returns
 returns c =

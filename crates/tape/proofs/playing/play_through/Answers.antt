@@ -13,7 +13,7 @@ loop-rest-preserved c =
     let some : 0 < length rest = omega (arith, eqb-false (length rest) 0 (sym c.loop-rest-test.ensures)) in
     let shorter = c.turn-done.ensures.shorter some in
     let so_far = c.loop-rest.invariant.0 in
-    let line = c.new-in-loop-rest.ensures ∙ ap (λ at. line_of at c.turn-done.result.0) c.offset-of-offset.ensures ∙ ap (line_of (length tape - length rest)) c.turn-done.ensures.answer in (
+    let line = c.new-in-loop-rest.ensures ∙ ap (λ at. line_of at c.turn-done.result.0) c.offset_of-offset.ensures ∙ ap (line_of (length tape - length rest)) c.turn-done.ensures.answer in (
       omega arith,
       (
         c.turn-done.ensures.orderly,

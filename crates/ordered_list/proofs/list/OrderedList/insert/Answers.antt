@@ -13,16 +13,16 @@ returns g c =
     let len = c.args.self.now.len in
     let xs = c.args.self.now.lines.now in
     let line = c.args.line in
-    let at = c.insert-into-at.ensures.answer in
-    let room = ltb-true len (length xs) (sym c.if-not-has-room.ensures) in
+    let at = c.insert_into-at.ensures.answer in
+    let room = ltb-true len (length xs) (sym c.if-not-has_room.ensures) in
     let r = insert_room after len xs line room in
-    let memory : c.insert-into-at.new.lines ≡ insert_memory after len xs line = let a = c.insert-into-at.ensures.after in let b = r.1 in cc in
-    let list : list_of (len + 1) c.insert-into-at.new.lines ≡ insert_list after len xs line = let l = list_insert after len xs line in let n = r.2 in cc in
+    let memory : c.insert_into-at.new.lines ≡ insert_memory after len xs line = let a = c.insert_into-at.ensures.after in let b = r.1 in cc in
+    let list : list_of (len + 1) c.insert_into-at.new.lines ≡ insert_list after len xs line = let l = list_insert after len xs line in let n = r.2 in cc in
     let lawful : Lawful after = record { apart = g.met.T.Ranked.apart; chain = g.met.T.Ranked.chain; alike = g.met.T.Ranked.alike } in
     let P : ℕ → Type 0 = λ n. RightPosition after line (list_of len xs) n in
     record {
-      same = refl {a = c.args.self.now.lines.name};
-      long = c.insert-into-at.auto.lines;
+      same = refl {a = c.args.self.now.lines.ghost_name};
+      long = c.insert_into-at.auto.lines;
       answer = let a = r.0 in cc;
       position = subst P (sym at) (position_right after line (list_of len xs));
       list = list;

@@ -16,4 +16,4 @@ returns-in-None c =
     let n = c.args.number.0 in
     let b = c.args.self.now in
     let none : first_with n (sells_in b) ≡ None = sym (c.in-None.ensures ∙ ap (first_with n) c.sells.ensures) in
-    c.entry-of-in-None.ensures ∙ ap (first_with n) c.buys.ensures ∙ sym (first_append n (sells_in b) (buys_in b) ∙ ap (λ o. or_else o (first_with n (buys_in b))) none)
+    c.entry_of-in-None.ensures ∙ ap (first_with n) c.buys.ensures ∙ sym (first_append n (sells_in b) (buys_in b) ∙ ap (λ o. or_else o (first_with n (buys_in b))) none)

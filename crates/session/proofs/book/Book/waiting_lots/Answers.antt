@@ -7,4 +7,4 @@ use Rattle.session.proofs.book.Book.waiting_lots.Goals as goal
 pub returns : goal.returns
 returns c =
     let b = c.args.self.now in
-    omega (arith, total-append lots_of (sells_in b) (buys_in b), c.lots-in-sells.ensures, c.lots-in-buys.ensures, ap lots_in c.sells.ensures, ap lots_in c.buys.ensures)
+    omega (arith, total-append lots_of (sells_in b) (buys_in b), c.lots_in-sells.ensures, c.lots_in-buys.ensures, ap lots_in c.sells.ensures, ap lots_in c.buys.ensures)

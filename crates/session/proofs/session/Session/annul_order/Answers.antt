@@ -17,15 +17,15 @@ returns-in-default g c =
     record { answer = λ b. ap (λ n. Ok (record { 0 = n })) (sym a.0); after = λ b. a.1 }
 
 -- the cover of what waits is there, so its release is never refused
-pub returns-in-err-release : goal.returns-in-err-release
-returns-in-err-release g c =
+pub returns-in_err-release : goal.returns-in_err-release
+returns-in_err-release g c =
     let s = state_of g.D.AccountBook.accounts c.args.self.now in
     let e = c.in-Some.entry in
     let never : Books s → ⊥ = λ b.
     let i = first_is c.args.number.0 (waiting s) e b.distinct (sym c.in-Some.ensures) in
     let passes = release_passes_one s c.args.number.0 e b i.0 in
     let answer = c.release.ensures.answer ∙ ap (release_answer s.accounts e.order.participant) c.cover.ensures ∙ passes in
-    ok_not_err c.release.result tt c.in-err-release.field-0.0 answer c.in-err-release.was in
+    ok_not_err c.release.result tt c.in_err-release.field-0.0 answer c.in_err-release.was in
     record { answer = λ b. absurd (never b); after = λ b. absurd (never b) }
 
 pub cancel-requires : goal.cancel-requires
@@ -42,7 +42,7 @@ returns g c =
     let found = sym c.in-Some.ensures in
     let t = state_of g.D.AccountBook.accounts (record { depository = c.release.new.self; phase = c.args.self.now.phase; book = c.cancel.new.self }) in
     let same = first_number n (waiting s) e found in
-    let accepted = c.in-ok-release.was in
+    let accepted = c.in_ok-release.was in
     let passed = sym c.release.ensures.answer ∙ accepted in
     record {
       answer = λ b. ap (λ k. Ok (record { 0 = k })) (sym (first_is n (waiting s) e b.distinct found).1);

@@ -7,33 +7,33 @@ use Rattle.session.specs.States.{state_of}
 use Rattle.session.proofs.Strikes.{not_struck, struck}
 use Rattle.session.proofs.session.Session.strike.Goals as goal
 
-pub returns-then-not-is-gathering : goal.returns-then-not-is-gathering
-returns-then-not-is-gathering g c =
+pub returns-then-not-is_gathering : goal.returns-then-not-is_gathering
+returns-then-not-is_gathering g c =
     let s = state_of g.D.AccountBook.accounts c.args.self.now in
-    let r = not_struck s c.if-not-is-gathering.ensures in
+    let r = not_struck s c.if-not-is_gathering.ensures in
     record { answer = λ _. r.0; after = λ _. r.1; greatest = greatest-between s.sells s.buys }
 
-pub returns-in-err-annul-all : goal.returns-in-err-annul-all
-returns-in-err-annul-all g c =
+pub returns-in_err-annul_all : goal.returns-in_err-annul_all
+returns-in_err-annul_all g c =
     let s = state_of g.D.AccountBook.accounts c.args.self.now in
     let never : Kept s → ⊥ = λ k.
-    ok_not_err c.annul-all.result _ c.in-err-annul-all.field-0.0 (c.annul-all.ensures.answer (gathering-books s k (sym c.if-not-is-gathering.ensures))) c.in-err-annul-all.was in
+    ok_not_err c.annul_all.result _ c.in_err-annul_all.field-0.0 (c.annul_all.ensures.answer (gathering-books s k (sym c.if-not-is_gathering.ensures))) c.in_err-annul_all.was in
     record { answer = λ k. absurd (never k); after = λ k. absurd (never k); greatest = greatest-between s.sells s.buys }
 
 pub returns-in-Some : goal.returns-in-Some
 returns-in-Some g c =
     let s = state_of g.D.AccountBook.accounts c.args.self.now in
-    let gathers = c.if-not-is-gathering.ensures in
+    let gathers = c.if-not-is_gathering.ensures in
     let found = λ (k : Kept s). struck s (Some c.in-Some.cut_off) gathers (c.in-Some.ensures (gathering-books s k (sym gathers))) in
     record { answer = λ k. (found k).0; after = λ k. (found k).1; greatest = greatest-between s.sells s.buys }
 
-pub returns-in-ok-annul-all : goal.returns-in-ok-annul-all
-returns-in-ok-annul-all g c =
+pub returns-in_ok-annul_all : goal.returns-in_ok-annul_all
+returns-in_ok-annul_all g c =
     let s = state_of g.D.AccountBook.accounts c.args.self.now in
-    let gathers = c.if-not-is-gathering.ensures in
+    let gathers = c.if-not-is_gathering.ensures in
     let none = λ (k : Kept s). struck s None gathers (c.in-None.ensures (gathering-books s k (sym gathers))) in
     record {
       answer = λ k. (none k).0;
-      after = λ k. c.annul-all.ensures.after (gathering-books s k (sym gathers)) ∙ (none k).1;
+      after = λ k. c.annul_all.ensures.after (gathering-books s k (sym gathers)) ∙ (none k).1;
       greatest = greatest-between s.sells s.buys;
     }
