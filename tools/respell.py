@@ -5,7 +5,7 @@ usage: python3 tools/respell.py [FOLDER]    (the top of a checkout; default: the
 
 Run once, after the kit's port.py. A word of the table is turned where it stands whole: in .antt files, and, where it is in
 mixed case or has a dash, in .rt files too (Rust names are neither, so these stand only in clauses, ghost items and comments).
-A word with a dash is left alone in comments, where it may be plain English, and a word in snake case is turned in .antt files only.
+A word with a dash is left alone in comments, where it may be plain English. A second run changes nothing.
 """
 
 import os

@@ -1,6 +1,6 @@
 -- One change of one account.
 use Rattle.std.specs.Prelude.{◌+◌, List, Ok, Result, nat_le}
-use Rattle.units.specs.Answers.{check, if_ok_lem, given}
+use Rattle.units.specs.Answers.{check, if_ok, given}
 use Rattle.units.specs.Ranges.{is_participant}
 use Rattle.units.specs.declared.participant.Participant.{Participant}
 use Rattle.depository.specs.declared.account.Account.{Account}
@@ -30,7 +30,7 @@ change_answer accounts p (Surrender x) =
     check (is_participant p) NoParticipant (check (has_blocked x (of accounts p)) BlockedTooSmall (Ok tt))
 
 abbrev pub change_after : List Account → Participant → Change → List Account
-change_after accounts p change = if_ok_lem (change_answer accounts p change) (changed accounts p (changing change)) accounts
+change_after accounts p change = if_ok (change_answer accounts p change) (changed accounts p (changing change)) accounts
 
 -- the participant's account after the change, or the refusal
 abbrev pub decided : List Account → Participant → Change → Result Account DepositoryFault

@@ -16,9 +16,9 @@ pub fn decide<B: AccountBook>(
     who: Participant,
     change: Change,
 ) -> Result<Account, DepositoryFault>
-    ensures answer { result ≡ decided (accounts book.now) who change }
+    ensures answer { result ≡ decided (B.AccountBook.accounts book.now) who change }
     ensures known { OnOk result (is_participant who ≡ true) }
-    ensures bounded { IfOk result (λ new. Within (changed (accounts book.now) who (λ _. new))) }
+    ensures bounded { IfOk result (λ new. Within (changed (B.AccountBook.accounts book.now) who (λ _. new))) }
 {
     let account = book.balances(who)?;
     has_room(book, change)?;
@@ -32,18 +32,18 @@ fn fitting<B: AccountBook>(
     change: Change,
     account: Account,
 ) -> Result<Account, DepositoryFault>
-    requires there { Ok account ≡ balances_answer (accounts book.now) who }
-    requires room { Ok tt ≡ room_answer (accounts book.now) change }
-    ensures answer { result ≡ decided (accounts book.now) who change }
+    requires there { Ok account ≡ balances_answer (B.AccountBook.accounts book.now) who }
+    requires room { Ok tt ≡ room_answer (B.AccountBook.accounts book.now) change }
+    ensures answer { result ≡ decided (B.AccountBook.accounts book.now) who change }
     ensures known { OnOk result (is_participant who ≡ true) }
-    ensures bounded { IfOk result (λ new. Within (changed (accounts book.now) who (λ _. new))) }
+    ensures bounded { IfOk result (λ new. Within (changed (B.AccountBook.accounts book.now) who (λ _. new))) }
 {
     after(account, change)
 }
 
 /// Refuses what would come in past the total that all may hold.
 fn has_room<B: AccountBook>(book: &B, change: Change) -> Result<(), DepositoryFault>
-    ensures { result ≡ room_answer (accounts book.now) change }
+    ensures { result ≡ room_answer (B.AccountBook.accounts book.now) change }
 {
     match change {
         Change::Gain(what) => held_in_all(book).room_for(what),

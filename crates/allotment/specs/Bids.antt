@@ -5,7 +5,7 @@ use Rattle.units.specs.declared.quantity.Lots.{Lots}
 use Rattle.units.specs.declared.quantity.Money.{Money}
 use Rattle.units.specs.declared.quantity.Price.{Price}
 use Rattle.ordered_list.specs.Keys.{upward, downward, then_by}
-use Rattle.units.specs.Answers.{and_then, if_ok_lem}
+use Rattle.units.specs.Answers.{and_then, if_ok}
 use Rattle.units.specs.declared.participant.Participant.{Participant}
 use Rattle.depository.specs.Calls.{Done, deliver_answer, deliver_after, release_answer, release_after}
 use Rattle.depository.specs.declared.amount.Amount.TheVariants.{Money as OfMoney}
@@ -42,8 +42,8 @@ settle_answer accounts seller bid share price =
 
 abbrev pub settle_after : List Account → Participant → Bid → Lots → Price → List Account
 settle_after accounts seller bid share price =
-    if_ok_lem (deliver_answer accounts seller bid.who share (worth price share))
-    (if_ok_lem (release_answer (after_delivery accounts seller bid share price) bid.who (OfMoney (saved_by bid share price)))
+    if_ok (deliver_answer accounts seller bid.who share (worth price share))
+    (if_ok (release_answer (after_delivery accounts seller bid share price) bid.who (OfMoney (saved_by bid share price)))
     (after_rest accounts seller bid share price) (after_delivery accounts seller bid share price)) accounts
 
 abbrev pub same_amounts : Account → Account → Bool

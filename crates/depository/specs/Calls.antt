@@ -1,6 +1,6 @@
 -- What each call of a depository answers, and what it makes of the accounts. A refused call leaves them as they were.
 use Rattle.std.specs.Prelude.{◌+◌, ◌&&◌, List, Ok, Result, nat_le}
-use Rattle.units.specs.Answers.{check, if_ok_lem}
+use Rattle.units.specs.Answers.{check, if_ok}
 use Rattle.units.specs.Ranges.{is_participant}
 use Rattle.units.specs.declared.participant.Participant.{Participant}
 use Rattle.units.specs.declared.quantity.Lots.{Lots as LotsOnly}
@@ -25,14 +25,14 @@ abbrev pub block_answer : List Account → Participant → Amount → Done
 block_answer accounts p x = check (is_participant p) NoParticipant (check (has_free x (of accounts p)) FreeTooSmall (Ok tt))
 
 abbrev pub block_after : List Account → Participant → Amount → List Account
-block_after accounts p x = if_ok_lem (block_answer accounts p x) (changed accounts p (blocking x)) accounts
+block_after accounts p x = if_ok (block_answer accounts p x) (changed accounts p (blocking x)) accounts
 
 -- release: from blocked to free
 abbrev pub release_answer : List Account → Participant → Amount → Done
 release_answer accounts p x = check (is_participant p) NoParticipant (check (has_blocked x (of accounts p)) BlockedTooSmall (Ok tt))
 
 abbrev pub release_after : List Account → Participant → Amount → List Account
-release_after accounts p x = if_ok_lem (release_answer accounts p x) (changed accounts p (releasing x)) accounts
+release_after accounts p x = if_ok (release_answer accounts p x) (changed accounts p (releasing x)) accounts
 
 -- an amount leaves what one participant has blocked and comes to what another, or the same, has free
 abbrev pub handed_over : List Account → Participant → Participant → Amount → List Account
@@ -48,7 +48,7 @@ abbrev pub delivered : List Account → Participant → Participant → LotsOnly
 delivered accounts seller buyer n m = handed_over (handed_over accounts seller buyer (Lots n)) buyer seller (Money m)
 
 abbrev pub deliver_after : List Account → Participant → Participant → LotsOnly → MoneyOnly → List Account
-deliver_after accounts seller buyer n m = if_ok_lem (deliver_answer accounts seller buyer n m) (delivered accounts seller buyer n m) accounts
+deliver_after accounts seller buyer n m = if_ok (deliver_answer accounts seller buyer n m) (delivered accounts seller buyer n m) accounts
 
 -- pay in: what is free grows, as far as all participants' total of that kind allows
 abbrev pub pay_in_answer : List Account → Participant → Amount → Done
@@ -56,11 +56,11 @@ pay_in_answer accounts p x =
     check (is_participant p) NoParticipant (check (nat_le (in_all (held_of x) accounts + size x) (most_of x)) PastTotal (Ok tt))
 
 abbrev pub pay_in_after : List Account → Participant → Amount → List Account
-pay_in_after accounts p x = if_ok_lem (pay_in_answer accounts p x) (changed accounts p (gaining x)) accounts
+pay_in_after accounts p x = if_ok (pay_in_answer accounts p x) (changed accounts p (gaining x)) accounts
 
 -- pay out: what is free shrinks
 abbrev pub pay_out_answer : List Account → Participant → Amount → Done
 pay_out_answer accounts p x = check (is_participant p) NoParticipant (check (has_free x (of accounts p)) FreeTooSmall (Ok tt))
 
 abbrev pub pay_out_after : List Account → Participant → Amount → List Account
-pay_out_after accounts p x = if_ok_lem (pay_out_answer accounts p x) (changed accounts p (losing x)) accounts
+pay_out_after accounts p x = if_ok (pay_out_answer accounts p x) (changed accounts p (losing x)) accounts

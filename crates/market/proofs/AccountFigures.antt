@@ -2,7 +2,7 @@
 use Rattle.std.proofs.Common.{◌≡◌, ℕ, ◌+◌, ◌-◌, ◌≤◌, Bool, true, false, cond, eqb, List, length, get_or, Ok, Err, Result, sym, refl, ap, ◌∙◌, subst, inl, inr, arith}
 use Rattle.std.proofs.lemmas.List.{length-set, get_or-set_same, get_or-set_other}
 use Rattle.std.proofs.lemmas.Bool.{and_parts, leb-true, le-leb, eqb-true, eqb-false, cases_Bool}
-use Rattle.units.specs.Answers.{check, if_ok_lem}
+use Rattle.units.specs.Answers.{check, if_ok}
 use Rattle.units.specs.Ranges.{is_participant}
 use Rattle.units.specs.declared.participant.Participant.{Participant}
 use Rattle.units.proofs.Checks.{checked_ok}
@@ -64,7 +64,7 @@ pub after_block : (figure : Account → ℕ) (part : Amount → ℕ) → Follows
     figure (of (block_after accounts who x) p) ≡ figure (of accounts p) + cond (eqb who.0 p.0) (part x) 0
 after_block figure part follows accounts long who x accepted p known =
     let passed = both_passed (is_participant who) (has_free x (of accounts who)) NoParticipant FreeTooSmall accepted in
-    ap (λ r. figure (of (if_ok_lem r (changed accounts who (blocking x)) accounts) p)) accepted
+    ap (λ r. figure (of (if_ok r (changed accounts who (blocking x)) accounts) p)) accepted
     ∙ of-changed accounts long who p passed.0 known (blocking x) (λ own a. figure a ≡ figure (of accounts p) + cond own (part x) 0)
     (λ same. (follows x (of accounts p)).0 (rw same at passed.1)) (omega arith)
 
@@ -74,7 +74,7 @@ pub after_release : (figure : Account → ℕ) (part : Amount → ℕ) → Follo
     figure (of (release_after accounts who x) p) + cond (eqb who.0 p.0) (part x) 0 ≡ figure (of accounts p)
 after_release figure part follows accounts long who x accepted p known =
     let passed = both_passed (is_participant who) (has_blocked x (of accounts who)) NoParticipant BlockedTooSmall accepted in
-    ap (λ r. figure (of (if_ok_lem r (changed accounts who (releasing x)) accounts) p) + cond (eqb who.0 p.0) (part x) 0) accepted
+    ap (λ r. figure (of (if_ok r (changed accounts who (releasing x)) accounts) p) + cond (eqb who.0 p.0) (part x) 0) accepted
     ∙ of-changed accounts long who p passed.0 known (releasing x) (λ own a. figure a + cond own (part x) 0 ≡ figure (of accounts p))
     (λ same. (follows x (of accounts p)).1 (rw same at passed.1)) (omega arith)
 
@@ -116,7 +116,7 @@ release_passes accounts who known x lots money = let there = blocked_there x (of
 
 -- no account comes or goes
 changed_long : {T E : Type 0} (answer : Result T E) (accounts : List Account) (who : Participant) (change : Account → Account) →
-    length accounts ≡ 64 → length (if_ok_lem answer (changed accounts who change) accounts) ≡ 64
+    length accounts ≡ 64 → length (if_ok answer (changed accounts who change) accounts) ≡ 64
 changed_long (Ok x) accounts who change long = length-set accounts (who.0 - 1) (change (of accounts who)) ∙ long
 changed_long (Err e) accounts who change long = long
 

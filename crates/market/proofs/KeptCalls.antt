@@ -1,7 +1,7 @@
 -- Every call leaves what it relies on, whatever the phase.
 use Rattle.std.proofs.Common.{◌≡◌, ℕ, Bool, true, false, cond, Some, None, Ok, Err, Option, Result, sym, refl, ap, ◌∙◌}
 use Rattle.std.proofs.lemmas.Bool.{false≢true, cond_both}
-use Rattle.units.specs.Answers.{if_ok_lem}
+use Rattle.units.specs.Answers.{if_ok}
 use Rattle.units.specs.declared.participant.Participant.{Participant}
 use Rattle.units.specs.declared.quantity.Price.{Price}
 use Rattle.units.specs.declared.quantity.Lots.{Lots}
@@ -25,7 +25,7 @@ use Rattle.market.proofs.KeptBooks.{priced-waiting, admitted, books-entered, boo
 -- ACCEPTED OR REFUSED
 
 -- what holds of what an accepted call makes, and of what was there before, holds after the call
-pub if_ok_lem : {T E X : Type 0} (answer : Result T E) (new old : X) (P : X → Type 0) → ((x : T) → answer ≡ Ok x → P new) → P old → P (if_ok_lem answer new old)
+pub if_ok_lem : {T E X : Type 0} (answer : Result T E) (new old : X) (P : X → Type 0) → ((x : T) → answer ≡ Ok x → P new) → P old → P (if_ok answer new old)
 if_ok_lem (Ok x) new old P accepted refused = accepted x refl
 if_ok_lem (Err refusal) new old P accepted refused = refused
 

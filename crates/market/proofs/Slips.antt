@@ -1,7 +1,7 @@
 -- From a newly opened session on, the slip is held just while the session is struck.
 use Rattle.std.proofs.Common.{◌≡◌, Bool, true, false, cond, is_some, Some, None, Ok, Err, Option, Result, sym, refl, ap, ◌∙◌}
 use Rattle.std.proofs.lemmas.Bool.{true≢false, false≢true}
-use Rattle.units.specs.Answers.{check, if_ok_lem}
+use Rattle.units.specs.Answers.{check, if_ok}
 use Rattle.units.specs.declared.quantity.Price.{Price}
 use Rattle.units.specs.declared.quantity.Lots.{Lots}
 use Rattle.market.specs.declared.phase.Phase.{Phase}
@@ -21,7 +21,7 @@ abbrev pub Matched : Desk → Type 0
 Matched d = d.slip ≡ is_struck d.session.phase
 
 -- of two states in one phase, either has it
-either-phase : {T E : Type 0} (answer : Result T E) (new old : State) → new.phase ≡ old.phase → (if_ok_lem answer new old).phase ≡ old.phase
+either-phase : {T E : Type 0} (answer : Result T E) (new old : State) → new.phase ≡ old.phase → (if_ok answer new old).phase ≡ old.phase
 either-phase (Ok x) new old e = e
 either-phase (Err f) new old e = refl
 
@@ -30,8 +30,8 @@ annulled-phase s = (each_keeps s.orders s).2
 
 -- strike, by the phase
 struck_matched : (p : Phase) (s : State) (found : Option Price) → s.phase ≡ p → false ≡ is_struck p →
-    if_ok_lem (check (is_gathering p) WrongPhase (Ok found)) (is_some found) false
-    ≡ is_struck (if_ok_lem (check (is_gathering p) WrongPhase (Ok found)) (struck_by found s) s).phase
+    if_ok (check (is_gathering p) WrongPhase (Ok found)) (is_some found) false
+    ≡ is_struck (if_ok (check (is_gathering p) WrongPhase (Ok found)) (struck_by found s) s).phase
 struck_matched Gathering s (Some c) e m = refl
 struck_matched Gathering s None e m = sym (ap is_struck (annulled-phase s ∙ e))
 struck_matched (Struck c) s found e m = m ∙ sym (ap is_struck e)
@@ -40,7 +40,7 @@ struck_matched Closed s found e m = sym (ap is_struck e)
 
 -- annul with a slip, by the phase
 annul_matched : (p : Phase) (s : State) (lots : Lots) → s.phase ≡ p → true ≡ is_struck p →
-    if_ok_lem (check (is_struck p) WrongPhase (Ok lots)) false true ≡ is_struck (if_ok_lem (check (is_struck p) WrongPhase (Ok lots)) (in_phase Gathering (all_annulled s)) s).phase
+    if_ok (check (is_struck p) WrongPhase (Ok lots)) false true ≡ is_struck (if_ok (check (is_struck p) WrongPhase (Ok lots)) (in_phase Gathering (all_annulled s)) s).phase
 annul_matched Gathering s lots e m = m ∙ sym (ap is_struck e)
 annul_matched (Struck c) s lots e m = refl
 annul_matched Continuous s lots e m = m ∙ sym (ap is_struck e)
@@ -48,7 +48,7 @@ annul_matched Closed s lots e m = m ∙ sym (ap is_struck e)
 
 -- close, by the phase
 close_matched : (p : Phase) (s : State) (slip : Bool) (lots : Lots) → s.phase ≡ p → slip ≡ is_struck p →
-    slip ≡ is_struck (if_ok_lem (check (is_trading p) WrongPhase (Ok lots)) (in_phase Closed (all_annulled s)) s).phase
+    slip ≡ is_struck (if_ok (check (is_trading p) WrongPhase (Ok lots)) (in_phase Closed (all_annulled s)) s).phase
 close_matched Gathering s slip lots e m = m
 close_matched (Struck c) s slip lots e m = m ∙ sym (ap is_struck e)
 close_matched Continuous s slip lots e m = m
@@ -73,7 +73,7 @@ matched_call Close d m = close_matched d.session.phase d.session d.slip (record 
 
 -- no slip is left behind: annul ends what is struck, and close strikes nothing
 annul_ends : (p : Phase) (s : State) (held : Bool) (lots : Lots) → s.phase ≡ p → held ≡ is_struck p →
-    is_struck (cond held (if_ok_lem (check (is_struck p) WrongPhase (Ok lots)) (in_phase Gathering (all_annulled s)) s) s).phase ≡ false
+    is_struck (cond held (if_ok (check (is_struck p) WrongPhase (Ok lots)) (in_phase Gathering (all_annulled s)) s) s).phase ≡ false
 annul_ends Gathering s true lots e m = absurd (true≢false m)
 annul_ends Gathering s false lots e m = ap is_struck e
 annul_ends (Struck c) s true lots e m = refl
@@ -84,7 +84,7 @@ annul_ends Closed s true lots e m = absurd (true≢false m)
 annul_ends Closed s false lots e m = ap is_struck e
 
 close_strikes_nothing : (p : Phase) (s : State) (lots : Lots) → s.phase ≡ p → is_struck p ≡ false →
-    is_struck (if_ok_lem (check (is_trading p) WrongPhase (Ok lots)) (in_phase Closed (all_annulled s)) s).phase ≡ false
+    is_struck (if_ok (check (is_trading p) WrongPhase (Ok lots)) (in_phase Closed (all_annulled s)) s).phase ≡ false
 close_strikes_nothing Gathering s lots e m = refl
 close_strikes_nothing (Struck c) s lots e m = absurd (true≢false m)
 close_strikes_nothing Continuous s lots e m = refl

@@ -1,7 +1,7 @@
 -- What each call of a session answers, and what it makes of the session. A refused call leaves the session as it was.
 use Rattle.std.specs.Prelude.{ℕ, ◌+◌, Bool, cond, not, ◌&&◌, List, [], ◌∷◌, ◌++◌, map, length, Some, None, Ok, filter, Option, Result, ◌==◌, nat_eq, nat_lt}
 use Rattle.ordered_list.specs.Order.{placed}
-use Rattle.units.specs.Answers.{check, if_ok_lem, given, raised}
+use Rattle.units.specs.Answers.{check, if_ok, given, raised}
 use Rattle.units.specs.Ranges.{is_participant, is_price, is_order_size}
 use Rattle.units.specs.Sides.{counter}
 use Rattle.units.specs.declared.participant.Participant.{Participant}
@@ -79,7 +79,7 @@ entered s order = record {
 }
 
 abbrev pub submit_after : State → Participant → Side → Price → Lots → State
-submit_after s who side limit lots = if_ok_lem (submit_answer s who side limit lots) (entered s (next_order s who side limit lots)) s
+submit_after s who side limit lots = if_ok (submit_answer s who side limit lots) (entered s (next_order s who side limit lots)) s
 
 -- ANNULLING: the entry leaves its queue, its cover is released, a cancellation is noted
 
@@ -135,7 +135,7 @@ withdraw_answer s who n =
     (Ok (record { 0 = waiting_lots n.0 (waiting s) })))))
 
 abbrev pub withdraw_after : State → Participant → OrderNumber → State
-withdraw_after s who n = if_ok_lem (withdraw_answer s who n) (annulled n.0 s) s
+withdraw_after s who n = if_ok (withdraw_answer s who n) (annulled n.0 s) s
 
 -- STRIKE: the cut-off, or nothing where the iteration is abandoned
 
@@ -148,7 +148,7 @@ struck_by (Some c) s = in_phase (Struck c) s
 struck_by None s = all_annulled s
 
 abbrev pub strike_after : State → State
-strike_after s = if_ok_lem (strike_answer s) (struck_by (cut_off_found s.sells s.buys) s) s
+strike_after s = if_ok (strike_answer s) (struck_by (cut_off_found s.sells s.buys) s) s
 
 -- ANNUL and CLOSE: all that waits is annulled, and the answer is how many lots these were
 
@@ -156,10 +156,10 @@ abbrev pub annul_answer : State → Result Lots SessionFault
 annul_answer s = check (is_struck s.phase) WrongPhase (Ok (record { 0 = lots_in (waiting s) }))
 
 abbrev pub annul_after : State → State
-annul_after s = if_ok_lem (annul_answer s) (in_phase Gathering (all_annulled s)) s
+annul_after s = if_ok (annul_answer s) (in_phase Gathering (all_annulled s)) s
 
 abbrev pub close_answer : State → Result Lots SessionFault
 close_answer s = check (is_trading s.phase) WrongPhase (Ok (record { 0 = lots_in (waiting s) }))
 
 abbrev pub close_after : State → State
-close_after s = if_ok_lem (close_answer s) (in_phase Closed (all_annulled s)) s
+close_after s = if_ok (close_answer s) (in_phase Closed (all_annulled s)) s

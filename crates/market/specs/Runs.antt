@@ -1,6 +1,6 @@
 -- Runs: any calls, one after the other, each answered by the rules.
 use Rattle.std.specs.Prelude.{◌≡◌, Bool, true, false, cond, List, [], ◌∷◌, is_some, Some, None, Err, Option, Result}
-use Rattle.units.specs.Answers.{if_ok_lem, answered}
+use Rattle.units.specs.Answers.{if_ok, answered}
 use Rattle.units.specs.declared.quantity.Price.{Price}
 use Rattle.market.specs.declared.call.Call.{Call}
 use Rattle.market.specs.declared.call.Call.TheVariants.{Submit, Withdraw, Strike, Annul, Close}
@@ -45,8 +45,8 @@ session_after Close d = close_after d.session
 abbrev pub slip_after : Call → Desk → Bool
 slip_after (Submit who side limit lots) d = d.slip
 slip_after (Withdraw who n) d = d.slip
-slip_after Strike d = cond d.slip true (if_ok_lem (strike_answer d.session) (is_some (cut_off_found d.session.sells d.session.buys)) false)
-slip_after Annul d = cond d.slip (if_ok_lem (annul_answer d.session) false true) false
+slip_after Strike d = cond d.slip true (if_ok (strike_answer d.session) (is_some (cut_off_found d.session.sells d.session.buys)) false)
+slip_after Annul d = cond d.slip (if_ok (annul_answer d.session) false true) false
 slip_after Close d = d.slip
 
 abbrev pub desk_after : Call → Desk → Desk

@@ -2,22 +2,22 @@
 use Rattle.std.proofs.Common.{◌≡◌, ℕ, zero, suc, ◌<◌, Bool, true, false, cond, not, ◌&&◌, List, [], ◌∷◌, length, get_or, set, refl, ap, inl, inr, arith}
 use Rattle.std.specs.List.{insert, remove}
 use Rattle.std.proofs.lemmas.Bool.{both_ways, and_parts, and_cases, and_from, not-true, not_from_false}
-use Rattle.ordered_list.specs.Order.{all_after_lem, after_none, in_order, position_of, placed}
+use Rattle.ordered_list.specs.Order.{all_after, after_none, in_order, position_of, placed}
 use Rattle.ordered_list.proofs.Laws.{Lawful, not_after_chain}
 
 -- x ranks after none of those that rank after it
-none_of-all : {X : Type 0} (after : X → X → Bool) → Lawful after → (x : X) (ys : List X) → all_after_lem after x ys ≡ true → after_none after x ys ≡ true
+none_of-all : {X : Type 0} (after : X → X → Bool) → Lawful after → (x : X) (ys : List X) → all_after after x ys ≡ true → after_none after x ys ≡ true
 none_of-all after l x [] e = refl
 none_of-all after l x (y ∷ ys) e =
-    let p = and_parts (after y x) (all_after_lem after x ys) e in
+    let p = and_parts (after y x) (all_after after x ys) e in
     and_from (not (after x y)) (after_none after x ys) (not_from_false (after x y) (l.apart y x p.0)) (none_of-all after l x ys p.1)
 
 -- y, which ranks after none of ys, does not rank after x if one of ys does not
-not_after : {X : Type 0} (after : X → X → Bool) → Lawful after → (x y : X) (ys : List X) → after_none after y ys ≡ true → all_after_lem after x ys ≡ false → after y x ≡ false
+not_after : {X : Type 0} (after : X → X → Bool) → Lawful after → (x y : X) (ys : List X) → after_none after y ys ≡ true → all_after after x ys ≡ false → after y x ≡ false
 not_after after l x y [] n e = absurd (both_ways true e refl)
 not_after after l x y (z ∷ zs) n e =
     let p = and_parts (not (after y z)) (after_none after y zs) n in
-    elim (and_cases (after z x) (all_after_lem after x zs) e) [
+    elim (and_cases (after z x) (all_after after x zs) e) [
       | inl f ↦ not_after_chain after l y z x (not-true (after y z) p.0) f
       | inr f ↦ not_after after l x y zs p.1 f
     ]
@@ -35,11 +35,11 @@ pub placed_in_order : {X : Type 0} (after : X → X → Bool) → Lawful after �
 placed_in_order after l x [] o = refl
 placed_in_order after l x (y ∷ ys) o =
     let p = and_parts (after_none after y ys) (in_order after ys) o in
-    let P : Bool → Type 0 = λ b. all_after_lem after x (y ∷ ys) ≡ b → in_order after (insert (y ∷ ys) (cond b 0 (suc (position_of after x ys))) x) ≡ true in
-    elim (all_after_lem after x (y ∷ ys)) as P [
+    let P : Bool → Type 0 = λ b. all_after after x (y ∷ ys) ≡ b → in_order after (insert (y ∷ ys) (cond b 0 (suc (position_of after x ys))) x) ≡ true in
+    elim (all_after after x (y ∷ ys)) as P [
       | true ↦ λ e. and_from (after_none after x (y ∷ ys)) (in_order after (y ∷ ys)) (none_of-all after l x (y ∷ ys) e) o
       | false ↦ λ e.
-          let f : after y x ≡ false = elim (and_cases (after y x) (all_after_lem after x ys) e) [ inl f ↦ f | inr f ↦ not_after after l x y ys p.0 f ] in
+          let f : after y x ≡ false = elim (and_cases (after y x) (all_after after x ys) e) [ inl f ↦ f | inr f ↦ not_after after l x y ys p.0 f ] in
           and_from (after_none after y (placed after x ys)) (in_order after (placed after x ys))
           (none_inserted after y x ys (position_of after x ys) f p.0) (placed_in_order after l x ys p.1)
     ] refl

@@ -7,9 +7,9 @@ abbrev pub rank_alike : {X : Type 0} → (X → X → Bool) → X → X → Bool
 rank_alike after x y = not (after x y) && not (after y x)
 
 -- every one of ys ranks after x
-abbrev pub all_after_lem : {X : Type 0} → (X → X → Bool) → X → List X → Bool
-all_after_lem after x [] = true
-all_after_lem after x (y ∷ ys) = after y x && all_after_lem after x ys
+abbrev pub all_after : {X : Type 0} → (X → X → Bool) → X → List X → Bool
+all_after after x [] = true
+all_after after x (y ∷ ys) = after y x && all_after after x ys
 
 -- x ranks after none of ys
 abbrev pub after_none : {X : Type 0} → (X → X → Bool) → X → List X → Bool
@@ -24,7 +24,7 @@ in_order after (y ∷ ys) = after_none after y ys && in_order after ys
 -- the position behind all of ys that do not rank after x
 abbrev pub position_of : {X : Type 0} → (X → X → Bool) → X → List X → ℕ
 position_of after x [] = 0
-position_of after x (y ∷ ys) = cond (all_after_lem after x (y ∷ ys)) 0 (suc (position_of after x ys))
+position_of after x (y ∷ ys) = cond (all_after after x (y ∷ ys)) 0 (suc (position_of after x ys))
 
 -- the list with x behind all that do not rank after it
 abbrev pub placed : {X : Type 0} → (X → X → Bool) → X → List X → List X

@@ -3,7 +3,7 @@ use Rattle.std.proofs.Common.{◌≡◌, ℕ, suc, ◌+◌, ◌<◌, Bool, false
 use Rattle.std.specs.List.{AllByRecursion as All}
 use Rattle.std.proofs.lemmas.List.{take_all, drop_all, map-append, map-id}
 use Rattle.std.proofs.lemmas.Bool.{and_left, le-ltb}
-use Rattle.ordered_list.specs.Order.{all_after_lem, position_of, placed}
+use Rattle.ordered_list.specs.Order.{all_after, position_of, placed}
 use Rattle.ordered_list.specs.Lists.{insert_memory, insert_len}
 use Rattle.ordered_list.proofs.Memory.{insert_room, list_insert_room}
 use Rattle.market.specs.declared.order.Resting.{Resting}
@@ -15,7 +15,7 @@ use Rattle.pricing.proofs.Limits.{Downward, limits_downward, downward_above}
 
 position_last : {X : Type 0} (after : X → X → Bool) (x : X) (ys : List X) → All (λ y. after y x ≡ false) ys → position_of after x ys ≡ length ys
 position_last after x [] a = refl
-position_last after x (y ∷ ys) a = rw (and_left (after y x) (all_after_lem after x ys) a.0) (ap suc (position_last after x ys a.1))
+position_last after x (y ∷ ys) a = rw (and_left (after y x) (all_after after x ys) a.0) (ap suc (position_last after x ys a.1))
 
 -- behind all, where none ranks after x
 pub placed-last : {X : Type 0} (after : X → X → Bool) (x : X) (ys : List X) → All (λ y. after y x ≡ false) ys → placed after x ys ≡ ys ++ (x ∷ [])

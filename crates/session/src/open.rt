@@ -39,7 +39,7 @@ impl<D: Depository> Session<D> {
 
 /// Whether nobody has anything blocked.
 fn nothing_blocked<B: AccountBook>(book: &B) -> bool
-    ensures { result ≡ nothing_blocked (accounts book.now) }
+    ensures { result ≡ nothing_blocked (B.AccountBook.accounts book.now) }
 {
     for i in 0..Participant::LAST {
         match book.balances(Participant(i + 1)) {

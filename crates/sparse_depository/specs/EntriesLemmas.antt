@@ -7,7 +7,7 @@ use Rattle.std.proofs.lemmas.List.{ext_get_or, length-take, get_or-take, length-
 use Rattle.std.proofs.lemmas.Bool.{and_parts, and_from, and_left, leb-true, le-leb, lt-ltb, le-ltb, eqb-true, eqb-false, eq-eqb, ne_eqb, cases_eq, cases_lt, cases_Bool, cond-true, cond-false, not_from_false}
 use Rattle.units.specs.Ranges.{is_participant}
 use Rattle.units.specs.declared.participant.Participant.{Participant}
-use Rattle.ordered_list.specs.Order.{all_after_lem, position_of, placed}
+use Rattle.ordered_list.specs.Order.{all_after, position_of, placed}
 use Rattle.depository.specs.declared.account.Account.{Account}
 use Rattle.sparse_depository.specs.declared.entry.AccountEntry.{AccountEntry}
 use Rattle.depository.specs.Accounts.{account, empty, is_empty, Within, of, changed}
@@ -132,7 +132,7 @@ without_absent p (a ∷ es) =
     ]
 
 -- every entry of a list that rises from above x comes after x
-all_after_lem : (low : ℕ) (x : AccountEntry) (es : List AccountEntry) → number x < low → rising low es ≡ true → all_after_lem by_participant x es ≡ true
+all_after_lem : (low : ℕ) (x : AccountEntry) (es : List AccountEntry) → number x < low → rising low es ≡ true → all_after by_participant x es ≡ true
 all_after_lem low x [] l h = refl
 all_after_lem low x (e ∷ es) l h =
     let r = rising_head low e es h in
@@ -152,7 +152,7 @@ rising_placed low x (y ∷ ys) l m h n =
       | inr above ↦
           let apart : number y ≡ number x → ⊥ = n 0 (omega arith) in
           let later : number y < number x = grind arith in
-          let behind = and_left (by_participant y x) (all_after_lem by_participant x ys) (le-ltb (number x) (number y) (omega arith)) in
+          let behind = and_left (by_participant y x) (all_after by_participant x ys) (le-ltb (number x) (number y) (omega arith)) in
           subst P (sym behind) (rising_from low y (placed by_participant x ys) r.0 r.1
           (rising_placed (number y + 1) x ys (omega arith) m r.2 (λ k j. n (suc k) (omega arith))))
     ]

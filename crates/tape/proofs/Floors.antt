@@ -1,6 +1,6 @@
 -- What one call of the session, and one command, make of the floor.
 use Rattle.std.proofs.Common.{◌≡◌, List, [], ◌∷◌, length, get_or, Ok, Result, sym, ap, ◌∙◌, arith}
-use Rattle.units.specs.Answers.{and_then, if_ok_lem}
+use Rattle.units.specs.Answers.{and_then, if_ok}
 use Rattle.market.specs.declared.call.Call.{Call}
 use Rattle.market.specs.Runs.{Desk, Reply, answer_to, desk_after, Run}
 use Rattle.market.proofs.KeptCalls.{kept_call}
@@ -30,5 +30,5 @@ pub command_done : (command checked : Command) (f : Floor) → Ok checked ≡ ch
 command_done command checked f e =
     let same : checked ≡ command = ok_value checked command (checked_ok (names_no_unknown_rule command) NoSuchRule (Ok command) checked e).1 in (
       ap (λ c. task_answer (task_of c) f) same ∙ ap (λ (r : Result Command TapeFault). and_then r (task_answer (task_of command) f)) e,
-      ap (λ c. task_after (task_of c) f) same ∙ ap (λ (r : Result Command TapeFault). if_ok_lem r (task_after (task_of command) f) f) e,
+      ap (λ c. task_after (task_of c) f) same ∙ ap (λ (r : Result Command TapeFault). if_ok r (task_after (task_of command) f) f) e,
     )

@@ -1,6 +1,6 @@
 -- What commands do, before open and after it.
 use Rattle.std.specs.Prelude.{◌≡◌, false, List, Err}
-use Rattle.units.specs.Answers.{answered, raised, and_then, if_ok_lem}
+use Rattle.units.specs.Answers.{answered, raised, and_then, if_ok}
 use Rattle.depository.specs.declared.account.Account.{Account}
 use Rattle.depository.specs.Calls.{pay_in_answer, pay_in_after}
 use Rattle.table_depository.specs.declared.table.TableDepository.{TableDepository}
@@ -60,7 +60,7 @@ abbrev pub command_answer : Command → Floor → Done
 command_answer command f = and_then (checked_of command) (task_answer (task_of command) f)
 
 abbrev pub command_after : Command → Floor → Floor
-command_after command f = if_ok_lem (checked_of command) (task_after (task_of command) f) f
+command_after command f = if_ok (checked_of command) (task_after (task_of command) f) f
 
 -- what every floor of a run is like: the session is kept, and the slip is held just while it is struck
 abbrev pub Orderly : Floor → Type 0

@@ -6,9 +6,9 @@ abbrev pub check : {T E : Type 0} → Bool → E → Result T E → Result T E
 check test refusal next = cond test next (Err refusal)
 
 -- what an accepted call makes of something, and what was there before where the call is refused
-abbrev pub if_ok_lem : {T E X : Type 0} → Result T E → X → X → X
-if_ok_lem (Ok answer) new old = new
-if_ok_lem (Err refusal) new old = old
+abbrev pub if_ok : {T E X : Type 0} → Result T E → X → X → X
+if_ok (Ok answer) new old = new
+if_ok (Err refusal) new old = old
 
 -- where one answer is accepted, this value; its refusal otherwise
 abbrev pub given : {S T E : Type 0} → Result S E → T → Result T E
