@@ -78,7 +78,7 @@ pub returns : goal.returns
 returns c =
     let os = c.args.offers.now in
     let bs = c.args.bids.now in
-    let t = next_from None os bs c.loop-price.i c.loop-price.j c.in-default.ensures in
+    let t = next_from None os bs c.loop-price.i c.loop-price.j c.in_default.ensures in
     record {
       within = c.loop-price.invariant.3;
       lines = λ sells e q m. walk_ends sells bs (drop c.loop-price.i os) (drop c.loop-price.j bs) (take c.loop-price.len c.loop-price.memory) c.loop-price.supply c.loop-price.demand

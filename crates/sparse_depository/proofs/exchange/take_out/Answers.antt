@@ -4,14 +4,14 @@ use Rattle.sparse_depository.specs.EntriesLemmas.{Absent, absent}
 use Rattle.sparse_depository.proofs.Lines.{few_removed, entry_goes}
 use Rattle.sparse_depository.proofs.exchange.take_out.Goals as goal
 
-pub returns-in-default : goal.returns-in-default
-returns-in-default c =
+pub returns-in_default : goal.returns-in_default
+returns-in_default c =
     let l = c.args.list.now in
     record {
       same = refl;
       long = refl;
       few = c.requires.few;
-      list = sym (absent c.args.who.0 (list_of l.len l.lines.now) (subst (Absent c.args.who.0) c.lines.ensures c.in-default.ensures)).1;
+      list = sym (absent c.args.who.0 (list_of l.len l.lines.now) (subst (Absent c.args.who.0) c.lines.ensures c.in_default.ensures)).1;
     }
 
 pub returns : goal.returns

@@ -6,8 +6,8 @@ use Rattle.session.specs.Books.{sells_in, buys_in}
 use Rattle.session.proofs.Places.{lots_without, counts_less}
 use Rattle.session.proofs.book.Book.cancel.Goals as goal
 
-pub invariant-of-self : goal.invariant-of-self
-invariant-of-self c =
+pub invariant_of-self : goal.invariant_of-self
+invariant_of-self c =
     let b = c.args.self.now in
     let n = number_of c.args.entry in
     let sold : lots_in (take c.take_out-self.result c.take_out-self.new.memory) ≡ lots_in (without_first n (sells_in b)) = ap lots_in c.take_out-self.ensures.queue in

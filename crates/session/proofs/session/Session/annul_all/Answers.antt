@@ -11,7 +11,7 @@ use Rattle.session.proofs.Clearing.{emptied, Cleared, orders_long, queues_emptie
 use Rattle.session.proofs.Slotting.{filled, filled_by, filled_more, by_number_long, found_by_number}
 use Rattle.session.proofs.session.Session.annul_all.Given as given
 use Rattle.session.proofs.session.Session.annul_all.Goals as goal
-use Rattle.session.proofs.session.Session.annul_all.Goals.{After-empty_queues, in-Some+in_ok-release, in-default}
+use Rattle.session.proofs.session.Session.annul_all.Goals.{After-empty_queues, in-Some+in_ok-release, in_default}
 
 -- the loop begins with the state of the entry, but for the queues
 from_empty : (g : given.Over) (c : After-empty_queues g) →
@@ -85,14 +85,14 @@ loop-i-preserved g c =
                 let accounts' = w.release.ensures.after ∙ ap (release_after t.accounts e.order.participant) w.cover-blocked.ensures in
                 cleared_one i s t _ e right (known s (ap (λ (u : State). u.orders) from)) (inv.3 s right from laid) found refl n.orders n.sells n.buys n.deals n.cancellations accounts',
           )
-      | in-default w ↦
-          let none = filled_more slots (i + 1) None low w.in-default.is in
+      | in_default w ↦
+          let none = filled_more slots (i + 1) None low w.in_default.is in
           subst (λ y. Cleared accounts (record { depository = c.args.self.now.depository; phase = c.args.self.now.phase; book = start }) y slots (i + 1)) (sym w.self-is) (
             inv.0,
             inv.1,
             omega (arith, none, inv.2),
             λ s right from laid.
-                let nothing = found_by_number s.sells s.buys slots (i + 1) None right.distinct slot laid w.in-default.is in
+                let nothing = found_by_number s.sells s.buys slots (i + 1) None right.distinct slot laid w.in_default.is in
                 cleared_none i s t right (known s (ap (λ (u : State). u.orders) from)) (inv.3 s right from laid) nothing,
           )
     ]

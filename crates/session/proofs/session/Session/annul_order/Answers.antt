@@ -10,10 +10,10 @@ use Rattle.session.proofs.Annulments.{first_is, first_number, annulled_nothing, 
 use Rattle.session.proofs.session.Session.annul_order.Goals as goal
 
 -- nothing waits
-pub returns-in-default : goal.returns-in-default
-returns-in-default g c =
+pub returns-in_default : goal.returns-in_default
+returns-in_default g c =
     let s = state_of g.D.AccountBook.accounts c.args.self.now in
-    let a = annulled_nothing c.args.number.0 s (sym c.in-default.ensures) in
+    let a = annulled_nothing c.args.number.0 s (sym c.in_default.ensures) in
     record { answer = λ b. ap (λ n. Ok (record { 0 = n })) (sym a.0); after = λ b. a.1 }
 
 -- the cover of what waits is there, so its release is never refused

@@ -13,8 +13,8 @@ returns-then-not-is_gathering g c =
     let r = not_struck s c.if-not-is_gathering.ensures in
     record { answer = λ _. r.0; after = λ _. r.1; greatest = greatest-between s.sells s.buys }
 
-pub returns-in_err-annul_all : goal.returns-in_err-annul_all
-returns-in_err-annul_all g c =
+pub returns-in_err-annul_all-in-None : goal.returns-in_err-annul_all-in-None
+returns-in_err-annul_all-in-None g c =
     let s = state_of g.D.AccountBook.accounts c.args.self.now in
     let never : Kept s → ⊥ = λ k.
     ok_not_err c.annul_all.result _ c.in_err-annul_all.field-0.0 (c.annul_all.ensures.answer (gathering-books s k (sym c.if-not-is_gathering.ensures))) c.in_err-annul_all.was in
@@ -27,8 +27,8 @@ returns-in-Some g c =
     let found = λ (k : Kept s). struck s (Some c.in-Some.cut_off) gathers (c.in-Some.ensures (gathering-books s k (sym gathers))) in
     record { answer = λ k. (found k).0; after = λ k. (found k).1; greatest = greatest-between s.sells s.buys }
 
-pub returns-in_ok-annul_all : goal.returns-in_ok-annul_all
-returns-in_ok-annul_all g c =
+pub returns-in_ok-annul_all-in-None : goal.returns-in_ok-annul_all-in-None
+returns-in_ok-annul_all-in-None g c =
     let s = state_of g.D.AccountBook.accounts c.args.self.now in
     let gathers = c.if-not-is_gathering.ensures in
     let none = λ (k : Kept s). struck s None gathers (c.in-None.ensures (gathering-books s k (sym gathers))) in

@@ -20,26 +20,21 @@ exchange-requires c =
       room = omega (arith, long, R.few, c.over-list.ensures.long, s.long);
     }
 
-pub invariant-of-self : goal.invariant-of-self
-invariant-of-self c =
+pub invariant_of-self : goal.invariant_of-self
+invariant_of-self c =
     let s = c.args.self.now in
     let es = take s.count s.entries in
     let new = memory_after c.args.who c.args.account s.count c.over-list.result.len c.exchange.new.list.len c.done-self.result s.entries c.over-list.result.lines.now c.exchange.new.list.lines.now c.done-self.new.self.0 (ap (λ x. x.now) c.over-list.ensures.lines) c.over-list.ensures.count c.exchange.ensures.list c.done-self.ensures.count c.done-self.ensures.memory in
     let R = replaced_is c.args.who c.args.account es c.requires.known s.rises s.hold in
     let Rises : List AccountEntry → Type 0 = λ xs. rising 1 xs ≡ true in
-    let Holds : List AccountEntry → Type 0 = λ xs. all_hold xs ≡ true in (
-      c.done-self.ensures.long ∙ c.exchange.ensures.long ∙ c.over-list.ensures.long ∙ s.long,
-      (
-        omega (arith, c.done-self.ensures.count, c.exchange.ensures.few, c.exchange.ensures.long, c.over-list.ensures.long, s.long),
-        (
-          subst Rises (sym new) R.rises,
-          (
-            subst Holds (sym new) R.hold,
-            (subst Within (sym (ap accounts_of new ∙ R.says)) c.requires.bounded, tt),
-          ),
-        ),
-      ),
-    )
+    let Holds : List AccountEntry → Type 0 = λ xs. all_hold xs ≡ true in
+    record {
+      long = c.done-self.ensures.long ∙ c.exchange.ensures.long ∙ c.over-list.ensures.long ∙ s.long;
+      few = omega (arith, c.done-self.ensures.count, c.exchange.ensures.few, c.exchange.ensures.long, c.over-list.ensures.long, s.long);
+      rises = subst Rises (sym new) R.rises;
+      hold = subst Holds (sym new) R.hold;
+      within = subst Within (sym (ap accounts_of new ∙ R.says)) c.requires.bounded;
+    }
 
 pub returns : goal.returns
 returns c =

@@ -2,8 +2,8 @@ use Rattle.std.proofs.Common.{refl, arith}
 use Rattle.sparse_depository.specs.EntriesLemmas.{no_entries, within_none}
 use Rattle.sparse_depository.proofs.sparse.SparseDepository.new.Goals as goal
 
-pub invariant-of-result : goal.invariant-of-result
-invariant-of-result c = (refl, (omega arith, (refl, (refl, (within_none, tt)))))
+pub invariant_of-result : goal.invariant_of-result
+invariant_of-result c = record { long = refl; few = omega arith; rises = refl; hold = refl; within = within_none }
 
 pub returns : goal.returns
 returns c = record { accounts = no_entries; none = refl }
