@@ -12,9 +12,9 @@ returns-in-1 c =
 pub returns-in-33 : goal.returns-in-33
 returns-in-33 c =
     arm c.args.tape.now 33 (omega arith) refl c.requires.long
-    (of_two (λ p n. Add p Sell n) c.participant_of-participant-in-33.ensures c.lots_of-lots_in-33.ensures)
+    (of_two (λ p n. Add p Sell n) c.participant_of-participant-in-33.ensures c.lots_of-lots-in-33.ensures)
 
 pub returns-in-34 : goal.returns-in-34
 returns-in-34 c =
     arm c.args.tape.now 34 (omega arith) refl c.requires.long
-    (of_two (λ p n. Add p Buy n) c.participant_of-participant-in-34.ensures c.lots_of-lots_in-34.ensures)
+    (of_two (λ p n. Add p Buy n) c.participant_of-participant-in-34.ensures c.lots_of-lots-in-34.ensures)

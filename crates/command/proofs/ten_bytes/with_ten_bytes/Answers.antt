@@ -17,4 +17,4 @@ returns-in-16 c =
 pub returns-in-17 : goal.returns-in-17
 returns-in-17 c =
     arm c.args.tape.now 17 (omega arith) refl c.requires.long
-    (of_three (λ p l n. Submit p Buy l n) c.participant_of-participant-in-17.ensures c.price_of-limit-in-17.ensures c.lots_of-lots_in-17.ensures)
+    (of_three (λ p l n. Submit p Buy l n) c.participant_of-participant-in-17.ensures c.price_of-limit-in-17.ensures c.lots_of-lots-in-17.ensures)

@@ -17,7 +17,7 @@ pub returns-in_err-annul_all-in-None : goal.returns-in_err-annul_all-in-None
 returns-in_err-annul_all-in-None g c =
     let s = state_of g.D.AccountBook.accounts c.args.self.now in
     let never : Kept s → ⊥ = λ k.
-    ok_not_err c.annul_all.result _ c.in_err-annul_all.field-0.0 (c.annul_all.ensures.answer (gathering-books s k (sym c.if-not-is_gathering.ensures))) c.in_err-annul_all.was in
+    ok_not_err c.annul_all.result _ c.in_err-annul_all-in-None.field-0.0 (c.annul_all.ensures.answer (gathering-books s k (sym c.if-not-is_gathering.ensures))) c.in_err-annul_all-in-None.was in
     record { answer = λ k. absurd (never k); after = λ k. absurd (never k); greatest = greatest-between s.sells s.buys }
 
 pub returns-in-Some : goal.returns-in-Some
