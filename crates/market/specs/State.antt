@@ -1,5 +1,5 @@
 -- What a session means.
-use Rattle.std.specs.Prelude.{◌+◌, Bool, true, false, List, [], ◌++◌}
+use Rattle.std.specs.Prelude.{Bool, true, false, List, [], ◌++◌}
 use Rattle.units.specs.declared.side.Side.{Side}
 use Rattle.units.specs.declared.side.Side.TheVariants.{Sell, Buy}
 use Rattle.depository.specs.declared.account.Account.{Account}

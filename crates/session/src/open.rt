@@ -13,6 +13,8 @@ use units::Participant;
 impl<D: Depository> Session<D> {
     /// Opens a session over a depository. Where anything is blocked in it (22), the session that comes with the refusal is
     /// Closed: it counts as not opened, and is there to hand the depository back.
+    // Not inlined: a session is large, and the compiler takes minutes over a caller that builds one in place and moves it on.
+    #[inline(never)]
     pub fn open(depository: D) -> Result<Session<D>, (SessionFault, Session<D>)>
         ensures answer { refusal_in result ≡ open_answer (D.AccountBook.accounts depository) }
         ensures session { state_of D.AccountBook.accounts (session_in result) ≡ opened (D.AccountBook.accounts depository) }
