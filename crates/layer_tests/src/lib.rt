@@ -5,6 +5,6 @@
 #[cfg(test)]
 mod depositories;
 #[cfg(test)]
-mod ordered_list;
+mod ordered_lists;
 #[cfg(test)]
-mod sharing;
+mod sharing_rules;

@@ -1,6 +1,6 @@
 -- What entering and annulling orders do to the accounts.
 use Rattle.std.proofs.Common.{◌≡◌, ℕ, ◌+◌, ◌-◌, ◌≤◌, Bool, true, false, cond, not, eqb, List, [], ◌∷◌, ◌++◌, length, Ok, sym, refl, ap, ◌∙◌, arith}
-use Rattle.std.specs.List.{AllByRecursion as All}
+use Rattle.std.specs.List.{AllByRecursion}
 use Rattle.std.proofs.lemmas.List.Elements.{filter-append}
 use Rattle.std.proofs.ByRecursion.{all_kept_by, All-weaker}
 use Rattle.std.proofs.lemmas.Bool.{eq-eqb, eqb-true}
@@ -26,7 +26,7 @@ use Rattle.market.proofs.AccountFigures.{Follows, after_block, after_release, lo
 
 -- waiting orders of participants of the market
 abbrev pub Known : List Resting → Type 0
-Known q = All (λ e. is_participant e.order.participant ≡ true) q
+Known q = AllByRecursion (λ e. is_participant e.order.participant ≡ true) q
 
 -- NO ACCOUNT COMES OR GOES
 
@@ -107,7 +107,7 @@ Enough accounts q = (p : Participant) → is_participant p ≡ true →
     (needed in_lots p.0 q ≤ lots_blocked (of accounts p)) × (needed in_money p.0 q ≤ money_blocked (of accounts p))
 
 -- one order needs no more than all of its participant
-one_needed : (q : List Resting) → All (λ e. (part : Amount → ℕ) → part (cover_of e) ≤ needed part (owner_of e) q) q
+one_needed : (q : List Resting) → AllByRecursion (λ e. (part : Amount → ℕ) → part (cover_of e) ≤ needed part (owner_of e) q) q
 one_needed [] = tt
 one_needed (e ∷ q) = (own, All-weaker _ _ (λ x less part. omega (arith, less part)) q (one_needed q))
   where
@@ -116,11 +116,11 @@ one_needed (e ∷ q) = (own, All-weaker _ _ (λ x less part. omega (arith, less 
 
 -- so where there is enough for all, there is enough to release each
 each_passes : (accounts : List Account) (q : List Resting) → Enough accounts q → Known q →
-    All (λ e. release_answer accounts e.order.participant (cover_of e) ≡ Ok tt) q
+    AllByRecursion (λ e. release_answer accounts e.order.participant (cover_of e) ≡ Ok tt) q
 each_passes accounts q enough known = each q known (one_needed q)
   where
-    each : (es : List Resting) → Known es → All (λ e. (part : Amount → ℕ) → part (cover_of e) ≤ needed part (owner_of e) q) es →
-        All (λ e. release_answer accounts e.order.participant (cover_of e) ≡ Ok tt) es
+    each : (es : List Resting) → Known es → AllByRecursion (λ e. (part : Amount → ℕ) → part (cover_of e) ≤ needed part (owner_of e) q) es →
+        AllByRecursion (λ e. release_answer accounts e.order.participant (cover_of e) ≡ Ok tt) es
     each [] known less = tt
     each (e ∷ es) known less =
         let who = e.order.participant in
@@ -128,7 +128,7 @@ each_passes accounts q enough known = each q known (one_needed q)
         (release_passes accounts who known.0 (cover_of e) (omega (arith, less.0 in_lots)) (omega (arith, less.0 in_money)), each es known.1 less.1)
 
 -- the cover of each waiting order can be released
-pub release_accepted : (s : State) → Covered s → Known (waiting s) → All (λ e. release_answer s.accounts e.order.participant (cover_of e) ≡ Ok tt) (waiting s)
+pub release_accepted : (s : State) → Covered s → Known (waiting s) → AllByRecursion (λ e. release_answer s.accounts e.order.participant (cover_of e) ≡ Ok tt) (waiting s)
 release_accepted s covered known = each_passes s.accounts (waiting s) (λ p k. let c = covered p k in (omega arith, omega arith)) known
 
 -- releasing the cover of orders takes what they need from everybody's figure

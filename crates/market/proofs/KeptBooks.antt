@@ -1,6 +1,6 @@
 -- The books are right in a session that opens, and they stay right as an order is entered and as orders are annulled.
 use Rattle.std.proofs.Common.{◌≡◌, ℕ, Bool, true, false, cond, not, eqb, ltb, List, [], ◌∷◌, length, Ok, Err, sym, refl, ap, subst, arith}
-use Rattle.std.specs.List.{ContainsAt as Has, AllByRecursion as All}
+use Rattle.std.specs.List.{ContainsAt as Has, AllByRecursion}
 use Rattle.std.proofs.ByRecursion.{all-has, all_kept_by, All-weaker}
 use Rattle.std.proofs.lemmas.Bool.{ltb-true, not-true}
 use Rattle.units.specs.Answers.{given, raised}
@@ -29,14 +29,14 @@ use Rattle.market.proofs.Accounting.{everyone-entered, everyone-annulled, covere
 -- WHAT WAITS is of orders that submit checked
 
 -- a fact of each order on record is one of each waiting order
-of-waiting : (P : Order → Type 0) (s : State) → Books s → ((o : Order) → InRange o → P o) → All (λ e. P e.order) (waiting s)
+of-waiting : (P : Order → Type 0) (s : State) → Books s → ((o : Order) → InRange o → P o) → AllByRecursion (λ e. P e.order) (waiting s)
 of-waiting P s b f = All-weaker (λ (e : Resting). Has s.orders e.order) (λ (e : Resting). P e.order)
     (λ e h. f e.order (all-has InRange s.orders e.order b.in_range h)) (waiting s) b.recorded
 
-pub known-waiting : (s : State) → Books s → All (λ e. is_participant e.order.participant ≡ true) (waiting s)
+pub known-waiting : (s : State) → Books s → AllByRecursion (λ e. is_participant e.order.participant ≡ true) (waiting s)
 known-waiting s b = of-waiting (λ o. is_participant o.participant ≡ true) s b (λ o r. r.0)
 
-pub priced-waiting : (s : State) → Books s → All (λ e. is_price e.order.limit ≡ true) (waiting s)
+pub priced-waiting : (s : State) → Books s → AllByRecursion (λ e. is_price e.order.limit ≡ true) (waiting s)
 priced-waiting s b = of-waiting (λ o. is_price o.limit ≡ true) s b (λ o r. r.1.0)
 
 -- OPENING
@@ -142,7 +142,7 @@ pub release_passes_one : (s : State) (n : ℕ) (e : Resting) → Books s → ent
 release_passes_one s n e b one =
     let Passes : Resting → Type 0 = λ x. release_answer s.accounts x.order.participant (cover_of x) ≡ Ok tt in
     let each = all_kept_by (λ (x : Resting). eqb (number_of x) n) Passes (waiting s) (release_accepted s b.covered (known-waiting s b)) in
-    (subst (All Passes) one each).0
+    (subst (AllByRecursion Passes) one each).0
 
 pub books-annulled : (n : ℕ) (s : State) → Books s → Books (annulled n s)
 books-annulled n s b = record {

@@ -1,6 +1,6 @@
 -- The cut-off is a price, and at no price can more deal.
 use Rattle.std.proofs.Common.{◌≡◌, ℕ, ◌+◌, ◌/◌, ◌%◌, ◌≤◌, Bool, true, cond, ◌||◌, eqb, ltb, leb, List, [], ◌∷◌, ◌++◌, refl, inl, inr, arith}
-use Rattle.std.specs.List.{AllByRecursion as All}
+use Rattle.std.specs.List.{AllByRecursion}
 use Rattle.std.proofs.lemmas.Bool.{cond_both, and_parts, and_from, or_cases, or_left, leb-true, le-leb, eqb-true, eq-eqb}
 use Rattle.units.specs.Ranges.{is_price}
 use Rattle.market.specs.declared.order.Resting.{Resting}
@@ -115,7 +115,7 @@ greatest-between sells buys c =
     }
 
 -- waiting limits are prices where those of the orders are
-limit_priced : (q : List Resting) (p : ℕ) → All (λ e. is_price e.order.limit ≡ true) q → Among p (limits_of q) → (1 ≤ p) × (p ≤ 1000000000)
+limit_priced : (q : List Resting) (p : ℕ) → AllByRecursion (λ e. is_price e.order.limit ≡ true) q → Among p (limits_of q) → (1 ≤ p) × (p ≤ 1000000000)
 limit_priced q p a m =
     let h = limit_of_one q p m in
     let e = h.0 in
@@ -124,7 +124,7 @@ limit_priced q p a m =
     let most = leb-true (limit_of e) 1000000000 t.1 in
     (omega arith, omega arith)
 
-pub cut_off_priced : (sells buys : List Resting) → All (λ e. is_price e.order.limit ≡ true) (sells ++ buys) → crosses sells buys ≡ true →
+pub cut_off_priced : (sells buys : List Resting) → AllByRecursion (λ e. is_price e.order.limit ≡ true) (sells ++ buys) → crosses sells buys ≡ true →
     is_price (record { 0 = cut_off sells buys }) ≡ true
 cut_off_priced sells buys a c =
     let b = bounds sells buys c in
@@ -134,7 +134,7 @@ cut_off_priced sells buys a c =
     and_from (leb 1 (cut_off sells buys)) (leb (cut_off sells buys) 1000000000)
     (le-leb 1 (cut_off sells buys) (omega arith)) (le-leb (cut_off sells buys) 1000000000 (omega arith))
 
-pub at_best : (sells buys : List Resting) → All (λ e. is_price e.order.limit ≡ true) (sells ++ buys) → crosses sells buys ≡ true →
+pub at_best : (sells buys : List Resting) → AllByRecursion (λ e. is_price e.order.limit ≡ true) (sells ++ buys) → crosses sells buys ≡ true →
     AtBest (record { 0 = cut_off sells buys }) sells buys
 at_best sells buys a c =
     let g = greatest-between sells buys c in

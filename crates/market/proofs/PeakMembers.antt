@@ -1,6 +1,6 @@
 -- Members of a list: what tests say of them, and those that a filter keeps.
 use Rattle.std.proofs.Common.{◌≡◌, Bool, true, false, cond, ◌⊎◌, List, [], ◌∷◌, ◌++◌, filter, sym, refl, ap, ◌∙◌, subst, inl, inr}
-use Rattle.std.specs.List.{AllByRecursion as All}
+use Rattle.std.specs.List.{AllByRecursion}
 use Rattle.std.proofs.lemmas.Bool.{both_ways, and_parts, and_from, or_cases}
 use Rattle.market.specs.Orders.{some, every}
 
@@ -10,7 +10,7 @@ Among x [] = ⊥
 Among x (y ∷ ys) = (y ≡ x) ⊎ Among x ys
 
 -- what holds of all holds of each
-pub all_among : {X : Type 0} (P : X → Type 0) (xs : List X) (x : X) → All P xs → Among x xs → P x
+pub all_among : {X : Type 0} (P : X → Type 0) (xs : List X) (x : X) → AllByRecursion P xs → Among x xs → P x
 all_among P [] x a m = absurd m
 all_among P (y ∷ ys) x a m = elim m [ inl e ↦ subst P e a.0 | inr n ↦ all_among P ys x a.1 n ]
 

@@ -1,6 +1,6 @@
 -- Entries of queues: what holds of them as one comes in and as some go out.
 use Rattle.std.proofs.Common.{◌≡◌, ℕ, zero, suc, ◌+◌, Bool, true, false, cond, not, ◌≢◌, List, [], ◌∷◌, ◌++◌, filter, sym, refl, ap, ◌∙◌, subst}
-use Rattle.std.specs.List.{insert, AllByRecursion as All}
+use Rattle.std.specs.List.{insert, AllByRecursion}
 use Rattle.std.proofs.ByRecursion.{all_kept_by}
 use Rattle.std.proofs.lemmas.Bool.{and_parts, and_from}
 use Rattle.ordered_list.specs.Keys.{upward}
@@ -17,7 +17,7 @@ use Rattle.market.specs.Law.{Distinct}
 use Rattle.market.proofs.Totals.{all_inserted, all_placed, total_inserted}
 
 -- what follows from two facts of each line
-pub all_both : {X : Type 0} (P Q R : X → Type 0) → ((x : X) → P x → Q x → R x) → (xs : List X) → All P xs → All Q xs → All R xs
+pub all_both : {X : Type 0} (P Q R : X → Type 0) → ((x : X) → P x → Q x → R x) → (xs : List X) → AllByRecursion P xs → AllByRecursion Q xs → AllByRecursion R xs
 all_both P Q R f [] a b = tt
 all_both P Q R f (x ∷ xs) a b = (f x a.0 b.0, all_both P Q R f xs a.1 b.1)
 
@@ -43,25 +43,25 @@ more_joined Sell e sells buys = more_first sells buys (position_of queue_after e
 more_joined Buy e sells buys = more_second sells buys (position_of queue_after e buys) e
 
 -- what holds of each line, and of the one that came in
-pub all_one_more : {X : Type 0} (P : X → Type 0) (x : X) (xs ys : List X) → OneMore x xs ys → All P xs → P x → All P ys
-all_one_more P x xs ys m a p = subst (λ l. All P l) (sym m.1) (all_inserted P xs m.0 x a p)
+pub all_one_more : {X : Type 0} (P : X → Type 0) (x : X) (xs ys : List X) → OneMore x xs ys → AllByRecursion P xs → P x → AllByRecursion P ys
+all_one_more P x xs ys m a p = subst (λ l. AllByRecursion P l) (sym m.1) (all_inserted P xs m.0 x a p)
 
 -- figures in all
 pub total_one_more : {X : Type 0} (f : X → ℕ) (x : X) (xs ys : List X) → OneMore x xs ys → total f ys ≡ f x + total f xs
 total_one_more f x xs ys m = ap (total f) m.1 ∙ total_inserted f xs m.0 x
 
 -- entries of different orders, and one of another order still
-distinct_inserted : (xs : List Resting) (i : ℕ) (x : Resting) → All (λ y. number_of y ≢ number_of x) xs → Distinct xs → Distinct (insert xs i x)
+distinct_inserted : (xs : List Resting) (i : ℕ) (x : Resting) → AllByRecursion (λ y. number_of y ≢ number_of x) xs → Distinct xs → Distinct (insert xs i x)
 distinct_inserted xs zero x a d = (a, d)
 distinct_inserted [] (suc i) x a d = (a, d)
 distinct_inserted (y ∷ xs) (suc i) x a d =
     (all_inserted (λ (z : Resting). number_of z ≢ number_of y) xs i x d.0 (λ e. a.0 (sym e)), distinct_inserted xs i x a.1 d.1)
 
-pub distinct_one_more : (x : Resting) (xs ys : List Resting) → OneMore x xs ys → All (λ y. number_of y ≢ number_of x) xs → Distinct xs → Distinct ys
+pub distinct_one_more : (x : Resting) (xs ys : List Resting) → OneMore x xs ys → AllByRecursion (λ y. number_of y ≢ number_of x) xs → Distinct xs → Distinct ys
 distinct_one_more x xs ys m a d = subst Distinct (sym m.1) (distinct_inserted xs m.0 x a d)
 
 -- a queue stays of its side
-pub sided_joined : (at side : Side) (e : Resting) (q : List Resting) → e.order.side ≡ side → All (λ x. x.order.side ≡ at) q → All (λ x. x.order.side ≡ at) (joined_by at side e q)
+pub sided_joined : (at side : Side) (e : Resting) (q : List Resting) → e.order.side ≡ side → AllByRecursion (λ x. x.order.side ≡ at) q → AllByRecursion (λ x. x.order.side ≡ at) (joined_by at side e q)
 sided_joined Sell Sell e q s a = all_placed (λ (x : Resting). x.order.side ≡ Sell) queue_after e q a s
 sided_joined Sell Buy e q s a = a
 sided_joined Buy Sell e q s a = a
@@ -106,6 +106,6 @@ pub distinct_kept_by : (test : Resting → Bool) (xs : List Resting) → Distinc
 distinct_kept_by test [] d = tt
 distinct_kept_by test (x ∷ xs) d = by (test x) (all_kept_by test (λ (y : Resting). number_of y ≢ number_of x) xs d.0) (distinct_kept_by test xs d.1)
   where
-    by : (t : Bool) → All (λ y. number_of y ≢ number_of x) (filter test xs) → Distinct (filter test xs) → Distinct (cond t (x ∷ filter test xs) (filter test xs))
+    by : (t : Bool) → AllByRecursion (λ y. number_of y ≢ number_of x) (filter test xs) → Distinct (filter test xs) → Distinct (cond t (x ∷ filter test xs) (filter test xs))
     by true a b = (a, b)
     by false a b = b

@@ -1,6 +1,6 @@
 -- Figures added up over lists, and what holds of each line of a list, as lines come in and go out.
 use Rattle.std.proofs.Common.{◌≡◌, ℕ, zero, suc, ◌+◌, ◌≤◌, Bool, true, false, cond, not, List, [], ◌∷◌, ◌++◌, filter, refl, arith}
-use Rattle.std.specs.List.{insert, AllByRecursion as All}
+use Rattle.std.specs.List.{insert, AllByRecursion}
 use Rattle.ordered_list.specs.Order.{position_of, placed}
 use Rattle.market.specs.Orders.{total}
 
@@ -27,32 +27,32 @@ total_parted f test (x ∷ xs) = by (test x) (total_parted f test xs)
     by false e = omega arith
 
 -- figures that are the same of each line, that are 0, that are in order
-pub total_same : {X : Type 0} (f g : X → ℕ) (xs : List X) → All (λ x. f x ≡ g x) xs → total f xs ≡ total g xs
+pub total_same : {X : Type 0} (f g : X → ℕ) (xs : List X) → AllByRecursion (λ x. f x ≡ g x) xs → total f xs ≡ total g xs
 total_same f g [] a = refl
 total_same f g (x ∷ xs) a = omega (arith, a.0, total_same f g xs a.1)
 
-pub total_none : {X : Type 0} (f : X → ℕ) (xs : List X) → All (λ x. f x ≡ 0) xs → total f xs ≡ 0
+pub total_none : {X : Type 0} (f : X → ℕ) (xs : List X) → AllByRecursion (λ x. f x ≡ 0) xs → total f xs ≡ 0
 total_none f [] a = refl
 total_none f (x ∷ xs) a = omega (arith, a.0, total_none f xs a.1)
 
-pub total_le : {X : Type 0} (f g : X → ℕ) (xs : List X) → All (λ x. f x ≤ g x) xs → total f xs ≤ total g xs
+pub total_le : {X : Type 0} (f g : X → ℕ) (xs : List X) → AllByRecursion (λ x. f x ≤ g x) xs → total f xs ≤ total g xs
 total_le f g [] a = omega arith
 total_le f g (x ∷ xs) a = omega (arith, a.0, total_le f g xs a.1)
 
 -- what holds of each line, and of one more
-pub all_inserted : {X : Type 0} (P : X → Type 0) (xs : List X) (i : ℕ) (x : X) → All P xs → P x → All P (insert xs i x)
+pub all_inserted : {X : Type 0} (P : X → Type 0) (xs : List X) (i : ℕ) (x : X) → AllByRecursion P xs → P x → AllByRecursion P (insert xs i x)
 all_inserted P xs zero x a p = (p, a)
 all_inserted P [] (suc i) x a p = (p, tt)
 all_inserted P (y ∷ xs) (suc i) x a p = (a.0, all_inserted P xs i x a.1 p)
 
-pub all_placed : {X : Type 0} (P : X → Type 0) (after : X → X → Bool) (x : X) (xs : List X) → All P xs → P x → All P (placed after x xs)
+pub all_placed : {X : Type 0} (P : X → Type 0) (after : X → X → Bool) (x : X) (xs : List X) → AllByRecursion P xs → P x → AllByRecursion P (placed after x xs)
 all_placed P after x xs a p = all_inserted P xs (position_of after x xs) x a p
 
 -- and of each line of two lists
-pub all_first : {X : Type 0} (P : X → Type 0) (xs ys : List X) → All P (xs ++ ys) → All P xs
+pub all_first : {X : Type 0} (P : X → Type 0) (xs ys : List X) → AllByRecursion P (xs ++ ys) → AllByRecursion P xs
 all_first P [] ys a = tt
 all_first P (x ∷ xs) ys a = (a.0, all_first P xs ys a.1)
 
-pub all_second : {X : Type 0} (P : X → Type 0) (xs ys : List X) → All P (xs ++ ys) → All P ys
+pub all_second : {X : Type 0} (P : X → Type 0) (xs ys : List X) → AllByRecursion P (xs ++ ys) → AllByRecursion P ys
 all_second P [] ys a = a
 all_second P (x ∷ xs) ys a = all_second P xs ys a.1

@@ -1,6 +1,6 @@
 -- What holds after every call of every run.
 use Rattle.std.specs.Prelude.{◌≡◌, ℕ, suc, ◌+◌, ◌*◌, ◌<◌, ◌≤◌, true, false, cond, ◌≢◌, List, [], ◌∷◌, length, ◌==◌, nat_eq}
-use Rattle.std.specs.List.{ContainsAt as Has, AllByRecursion as All}
+use Rattle.std.specs.List.{ContainsAt as Has, AllByRecursion}
 use Rattle.ordered_list.specs.Order.{in_order}
 use Rattle.units.specs.Ranges.{is_participant, is_price, is_order_size}
 use Rattle.units.specs.declared.participant.Participant.{Participant}
@@ -34,7 +34,7 @@ abbrev pub BalancedOrder : State → Order → Type 0
 BalancedOrder s o = o.accepted.0 ≡ dealt_lots o.number.0 s.deals + (cancelled_lots o.number.0 s.cancellations + waiting_lots o.number.0 (waiting s))
 
 abbrev pub Balanced : State → Type 0
-Balanced s = All (BalancedOrder s) s.orders
+Balanced s = AllByRecursion (BalancedOrder s) s.orders
 
 -- COVER
 
@@ -112,23 +112,23 @@ InRange o = (is_participant o.participant ≡ true) × ((is_price o.limit ≡ tr
 -- no two entries are of one order
 abbrev pub Distinct : List Resting → Type 0
 Distinct [] = Unit {0}
-Distinct (e ∷ es) = All (λ x. number_of x ≢ number_of e) es × Distinct es
+Distinct (e ∷ es) = AllByRecursion (λ x. number_of x ≢ number_of e) es × Distinct es
 
 -- the books are right, whatever the phase
 pub record Books (s : State) : Type 0 where
   pub everyone : length s.accounts ≡ 64
   pub few : length s.orders ≤ most_orders
   pub numbered : NumberedFrom 1 s.orders
-  pub in_range : All InRange s.orders
-  pub recorded : All (λ e. Has s.orders e.order) (waiting s)
-  pub lots_wait : All (λ e. (0 < lots_of e) × (lots_of e ≤ e.order.accepted.0)) (waiting s)
+  pub in_range : AllByRecursion InRange s.orders
+  pub recorded : AllByRecursion (λ e. Has s.orders e.order) (waiting s)
+  pub lots_wait : AllByRecursion (λ e. (0 < lots_of e) × (lots_of e ≤ e.order.accepted.0)) (waiting s)
   pub distinct : Distinct (waiting s)
-  pub selling : All (λ e. e.order.side ≡ Sell) s.sells
-  pub buying : All (λ e. e.order.side ≡ Buy) s.buys
+  pub selling : AllByRecursion (λ e. e.order.side ≡ Sell) s.sells
+  pub buying : AllByRecursion (λ e. e.order.side ≡ Buy) s.buys
   pub sells_in_order : in_order queue_after s.sells ≡ true
   pub buys_in_order : in_order queue_after s.buys ≡ true
-  pub deals_known : All (λ d. (d.sell.0 ≤ length s.orders) × (d.buy.0 ≤ length s.orders)) s.deals
-  pub cancellations_known : All (λ c. c.order.0 ≤ length s.orders) s.cancellations
+  pub deals_known : AllByRecursion (λ d. (d.sell.0 ≤ length s.orders) × (d.buy.0 ≤ length s.orders)) s.deals
+  pub cancellations_known : AllByRecursion (λ c. c.order.0 ≤ length s.orders) s.cancellations
   pub balanced : Balanced s
   pub covered : Covered s
 

@@ -1,6 +1,6 @@
 -- Lengths, sums and what holds of each line of a list that a line went into or out of.
 use Rattle.std.proofs.Common.{◌≡◌, ℕ, zero, suc, ◌+◌, Bool, List, [], ◌∷◌, length, take, drop, Some, None, sum_by, ap, arith}
-use Rattle.std.specs.List.{insert, remove, slice_get, AllByRecursion as All}
+use Rattle.std.specs.List.{insert, remove, slice_get, AllByRecursion}
 use Rattle.std.proofs.lemmas.List.Edits.{length-insert}
 use Rattle.std.proofs.ByRecursion.{All-append, All-take, All-drop}
 use Rattle.std.proofs.lemmas.List.Sums.{sum_by-cons, sum_by-append, sum_by-take-drop}
@@ -39,8 +39,8 @@ sum_by_removed f (y ∷ ys) (suc i) x e =
     omega (arith, h, a, b)
 
 -- what holds of each line
-pub all_placed : {X : Type 0} (P : X → Type 0) (after : X → X → Bool) (x : X) (ys : List X) → P x → All P ys → All P (placed after x ys)
+pub all_placed : {X : Type 0} (P : X → Type 0) (after : X → X → Bool) (x : X) (ys : List X) → P x → AllByRecursion P ys → AllByRecursion P (placed after x ys)
 all_placed P after x ys p a = All-append P (take (position_of after x ys) ys) (x ∷ drop (position_of after x ys) ys) (All-take P (position_of after x ys) ys a) (p, All-drop P (position_of after x ys) ys a)
 
-pub all_removed : {X : Type 0} (P : X → Type 0) (ys : List X) (i : ℕ) → All P ys → All P (remove ys i)
+pub all_removed : {X : Type 0} (P : X → Type 0) (ys : List X) (i : ℕ) → AllByRecursion P ys → AllByRecursion P (remove ys i)
 all_removed P ys i a = All-append P (take i ys) (drop (suc i) ys) (All-take P i ys a) (All-drop P (suc i) ys a)

@@ -1,6 +1,6 @@
 -- The first order of a queue has the best limit.
 use Rattle.std.proofs.Common.{◌≡◌, ℕ, ◌-◌, ◌^◌, ◌<◌, min, List, [], ◌∷◌, length, get_or, Some, Option, sym, refl, ap, ◌∙◌, arith}
-use Rattle.std.specs.List.{AllByRecursion as All}
+use Rattle.std.specs.List.{AllByRecursion}
 use Rattle.units.specs.declared.quantity.Lots.{Lots}
 use Rattle.units.specs.declared.quantity.Price.{Price}
 use Rattle.units.specs.declared.side.Side.{Side}
@@ -16,7 +16,7 @@ use Rattle.pricing.proofs.Figures.{highest_le, lowest_first}
 use Rattle.pricing.proofs.Fronts.{front-all, front_le}
 
 -- the first limit is the best
-pub first_limit : (side : Side) (e : Resting) (es : List Resting) → All (λ x. Behind side (limit_of e) (limit_of x)) es → best_limit side (e ∷ es) ≡ limit_of e
+pub first_limit : (side : Side) (e : Resting) (es : List Resting) → AllByRecursion (λ x. Behind side (limit_of e) (limit_of x)) es → best_limit side (e ∷ es) ≡ limit_of e
 first_limit Sell e es a = lowest_first limit_of e es a
 first_limit Buy e es a = omega (arith, highest_le limit_of (limit_of e) es a)
 

@@ -1,6 +1,6 @@
 -- The candidates among the walked lines are the candidates among the waiting limits.
 use Rattle.std.proofs.Common.{◌≡◌, ℕ, ◌+◌, ◌-◌, ◌^◌, ◌<◌, ◌≤◌, Bool, true, ◌&&◌, eqb, leb, List, [], ◌∷◌, ◌++◌, map, filter, sym, refl, ap, ◌∙◌, arith}
-use Rattle.std.specs.List.{AllByRecursion as All}
+use Rattle.std.specs.List.{AllByRecursion}
 use Rattle.std.proofs.ByRecursion.{All-weaker, all_kept_by}
 use Rattle.std.proofs.lemmas.Bool.{leb-true, le-leb, cond_both}
 use Rattle.market.specs.declared.order.Resting.{Resting}
@@ -30,7 +30,7 @@ most_kept f ps =
     (λ p e. le-leb (highest (map f ps)) (f p) (highest_le f (f p) ps (All-weaker (λ q. leb (f q) (f p) ≡ true) (λ q. f q ≤ f p) (λ q h. leb-true (f q) (f p) h) ps (all-every (λ q. leb (f q) (f p)) ps e)))) ps)
 
 -- those with the least are those with the least figure
-least_kept : (top : ℕ) (f : ℕ → ℕ) (ps : List ℕ) → All (λ p. f p ≤ top) ps → with_least f ps ≡ filter (λ p. eqb (f p) (least_of top (map f ps))) ps
+least_kept : (top : ℕ) (f : ℕ → ℕ) (ps : List ℕ) → AllByRecursion (λ p. f p ≤ top) ps → with_least f ps ≡ filter (λ p. eqb (f p) (least_of top (map f ps))) ps
 least_kept top f ps t =
     kept_best (λ m n. leb n m) f (least_of top (map f ps)) ps (λ m n a b. let u = leb-true n m a in let v = leb-true m n b in omega arith)
     (All-weaker (λ p. least_of top (map f ps) ≤ f p) (λ p. leb (least_of top (map f ps)) (f p) ≡ true) (λ p h. le-leb (least_of top (map f ps)) (f p) h) ps (least_below top f ps))
@@ -38,7 +38,7 @@ least_kept top f ps t =
     (λ p l e. le-leb (f p) (least_of top (map f ps)) (least_ge top f (f p) ps l (All-weaker (λ q. leb (f p) (f q) ≡ true) (λ q. f p ≤ f q) (λ q h. leb-true (f p) (f q) h) ps (all-every (λ q. leb (f p) (f q)) ps e)))) ps t)
 
 -- the candidates in one pass over the prices
-candidates_passed : (top : ℕ) (f g : ℕ → ℕ) (ps : List ℕ) → All (λ p. g p ≤ top) ps →
+candidates_passed : (top : ℕ) (f g : ℕ → ℕ) (ps : List ℕ) → AllByRecursion (λ p. g p ≤ top) ps →
     with_least g (with_most f ps) ≡
     filter (λ p. eqb (f p) (highest (map f ps)) && eqb (g p) (least_of top (map g (filter (λ q. eqb (f q) (highest (map f ps))) ps)))) ps
 candidates_passed top f g ps t =
@@ -48,7 +48,7 @@ candidates_passed top f g ps t =
     kept_both (λ q. eqb (f q) (highest (map f ps))) (λ p. eqb (g p) (least_of top (map g ms))) ps
 
 -- and over the lines at the prices
-pub candidate_prices : (sells buys : List Resting) (ps : List ℕ) → All (λ p. imbalance sells buys p ≤ 2 ^ 64 - 1) ps →
+pub candidate_prices : (sells buys : List Resting) (ps : List ℕ) → AllByRecursion (λ p. imbalance sells buys p ≤ 2 ^ 64 - 1) ps →
     map price_of (candidate_lines (map (line_at sells buys) ps)) ≡ with_least (imbalance sells buys) (with_most (volume sells buys) ps)
 candidate_prices sells buys ps t =
     let line = line_at sells buys in

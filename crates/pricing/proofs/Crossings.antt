@@ -1,6 +1,6 @@
 -- Whether limits of two queues meet: the first orders decide it.
 use Rattle.std.proofs.Common.{◌≡◌, ℕ, ◌<◌, ◌≤◌, Bool, false, leb, ◌⊎◌, List, [], ◌∷◌, length, get_or, sym, refl, ◌∙◌, inl, inr, arith}
-use Rattle.std.specs.List.{AllByRecursion as All}
+use Rattle.std.specs.List.{AllByRecursion}
 use Rattle.std.proofs.ByRecursion.{All-weaker}
 use Rattle.std.proofs.lemmas.Bool.{cases_Bool, or_left, or_from, leb-false, lt-leb}
 use Rattle.units.specs.declared.side.Side.TheVariants.{Sell, Buy}
@@ -11,11 +11,11 @@ use Rattle.market.specs.Queues.{Queues}
 use Rattle.pricing.proofs.Blank.{nothing}
 use Rattle.pricing.proofs.Sides.{queue_sorted}
 
-some_none : {X : Type 0} (test : X → Bool) (xs : List X) → All (λ x. test x ≡ false) xs → some test xs ≡ false
+some_none : {X : Type 0} (test : X → Bool) (xs : List X) → AllByRecursion (λ x. test x ≡ false) xs → some test xs ≡ false
 some_none test [] a = refl
 some_none test (x ∷ xs) a = or_from (test x) (some test xs) a.0 (some_none test xs a.1)
 
-none_under : (s b : ℕ) (ss bs : List Resting) → b < s → All (λ x. s ≤ limit_of x) ss → All (λ y. limit_of y ≤ b) bs → crosses ss bs ≡ false
+none_under : (s b : ℕ) (ss bs : List Resting) → b < s → AllByRecursion (λ x. s ≤ limit_of x) ss → AllByRecursion (λ y. limit_of y ≤ b) bs → crosses ss bs ≡ false
 none_under s b ss bs l h k =
     some_none (λ x. some (λ y. leb (limit_of x) (limit_of y)) bs) ss
     (All-weaker (λ x. s ≤ limit_of x) (λ x. some (λ y. leb (limit_of x) (limit_of y)) bs ≡ false)
@@ -40,7 +40,7 @@ pub crosses_none : (sells buys : List Resting) → (length sells ≡ 0) ⊎ (len
 crosses_none [] buys h = refl
 crosses_none (s ∷ ss) [] h = sym (some_none (λ x. some (λ y. leb (limit_of x) (limit_of y)) []) (s ∷ ss) (each (s ∷ ss)))
   where
-    each : (xs : List Resting) → All (λ x. some (λ y. leb (limit_of x) (limit_of y)) [] ≡ false) xs
+    each : (xs : List Resting) → AllByRecursion (λ x. some (λ y. leb (limit_of x) (limit_of y)) [] ≡ false) xs
     each [] = tt
     each (x ∷ xs) = (refl, each xs)
 crosses_none (s ∷ ss) (b ∷ bs) (inl h) = absurd (omega arith)

@@ -1,6 +1,6 @@
 -- The level at the front of a sorted list of orders: none behind it has its limit.
 use Rattle.std.proofs.Common.{◌≡◌, ℕ, ◌≤◌, false, eqb, List, [], ◌∷◌, take, drop, refl, inl, inr, one-add, arith}
-use Rattle.std.specs.List.{AllByRecursion as All}
+use Rattle.std.specs.List.{AllByRecursion}
 use Rattle.std.proofs.ByRecursion.{All-weaker}
 use Rattle.std.proofs.lemmas.Bool.{cases_Bool, eqb-true, eqb-false, ne_eqb}
 use Rattle.units.specs.declared.side.Side.{Side}
@@ -26,13 +26,13 @@ beyond_apart Buy p q b e = omega arith
 
 -- all orders are beyond p where the first has another limit
 all_beyond : (side : Side) (p : ℕ) (e : Resting) (es : List Resting) → Sorted side (e ∷ es) → Behind side p (limit_of e) → (limit_of e ≡ p → ⊥) →
-    All (λ x. Beyond side p (limit_of x)) (e ∷ es)
+    AllByRecursion (λ x. Beyond side p (limit_of x)) (e ∷ es)
 all_beyond side p e es s b n =
     let f = beyond_from side p (limit_of e) b n in
     (f, All-weaker (λ x. Behind side (limit_of e) (limit_of x)) (λ x. Beyond side p (limit_of x)) (λ x h. beyond_behind side p (limit_of e) (limit_of x) f h) es s.0)
 
 -- the front has the limit
-pub front_at : (p : ℕ) (q : List Resting) → All (λ x. limit_of x ≡ p) (take (front_orders p q) q)
+pub front_at : (p : ℕ) (q : List Resting) → AllByRecursion (λ x. limit_of x ≡ p) (take (front_orders p q) q)
 front_at p [] = tt
 front_at p (e ∷ es) = elim (cases_Bool (eqb (limit_of e) p)) [
   | inl t ↦ rw (t, one-add) (eqb-true (limit_of e) p t, front_at p es)
@@ -48,8 +48,8 @@ front_lots_lem p (e ∷ es) = elim (cases_Bool (eqb (limit_of e) p)) [
 ]
 
 -- what is behind it is beyond the limit, where p is no worse than any
-pub rest_beyond : (side : Side) (p : ℕ) (q : List Resting) → Sorted side q → All (λ x. Behind side p (limit_of x)) q →
-    All (λ x. Beyond side p (limit_of x)) (drop (front_orders p q) q)
+pub rest_beyond : (side : Side) (p : ℕ) (q : List Resting) → Sorted side q → AllByRecursion (λ x. Behind side p (limit_of x)) q →
+    AllByRecursion (λ x. Beyond side p (limit_of x)) (drop (front_orders p q) q)
 rest_beyond side p [] s a = tt
 rest_beyond side p (e ∷ es) s a = elim (cases_Bool (eqb (limit_of e) p)) [
   | inl t ↦ rw (t, one-add) (rest_beyond side p es s.1 a.1)
@@ -57,7 +57,7 @@ rest_beyond side p (e ∷ es) s a = elim (cases_Bool (eqb (limit_of e) p)) [
 ]
 
 -- all lots at the limit stand in front
-pub front-all : (side : Side) (p : ℕ) (q : List Resting) → Sorted side q → All (λ x. Behind side p (limit_of x)) q → lots_at p q ≡ front_lots p q
+pub front-all : (side : Side) (p : ℕ) (q : List Resting) → Sorted side q → AllByRecursion (λ x. Behind side p (limit_of x)) q → lots_at p q ≡ front_lots p q
 front-all side p [] s a = refl
 front-all side p (e ∷ es) s a = elim (cases_Bool (eqb (limit_of e) p)) [
   | inl t ↦ rw t (omega (arith, front-all side p es s.1 a.1))

@@ -1,6 +1,6 @@
 -- What passes a test, of a list and of what is left of it.
 use Rattle.std.proofs.Common.{◌≡◌, ℕ, ◌+◌, ◌<◌, ◌≤◌, Bool, true, false, cond, ◌&&◌, eqb, List, [], ◌∷◌, map, length, get_or, drop, filter, sym, refl, ap, ◌∙◌, inl, inr}
-use Rattle.std.specs.List.{AllByRecursion as All}
+use Rattle.std.specs.List.{AllByRecursion}
 use Rattle.std.proofs.lemmas.List.{at_drop_more, at_drop_all}
 use Rattle.std.proofs.lemmas.Bool.{cases_Bool, eqb-true, eqb-false, and_from, and_parts}
 use Rattle.market.specs.Orders.{every}
@@ -18,7 +18,7 @@ pub kept_all : {X : Type 0} (test : X → Bool) (xs : List X) (i : ℕ) → leng
 kept_all test xs i l = at_drop_all (filter test) xs i l
 
 -- two tests that agree on each element
-pub kept_same : {X : Type 0} (t u : X → Bool) (xs : List X) → All (λ x. t x ≡ u x) xs → filter t xs ≡ filter u xs
+pub kept_same : {X : Type 0} (t u : X → Bool) (xs : List X) → AllByRecursion (λ x. t x ≡ u x) xs → filter t xs ≡ filter u xs
 kept_same t u [] a = refl
 kept_same t u (x ∷ xs) a = let h = kept_same t u xs a.1 in let e = a.0 in cc
 
@@ -43,18 +43,18 @@ map-map g f [] = refl
 map-map g f (x ∷ xs) = ap (λ zs. g (f x) ∷ zs) (map-map g f xs)
 
 -- every one
-pub every_from : {X : Type 0} (test : X → Bool) (xs : List X) → All (λ x. test x ≡ true) xs → every test xs ≡ true
+pub every_from : {X : Type 0} (test : X → Bool) (xs : List X) → AllByRecursion (λ x. test x ≡ true) xs → every test xs ≡ true
 every_from test [] a = refl
 every_from test (x ∷ xs) a = and_from (test x) (every test xs) a.0 (every_from test xs a.1)
 
-pub all-every : {X : Type 0} (test : X → Bool) (xs : List X) → every test xs ≡ true → All (λ x. test x ≡ true) xs
+pub all-every : {X : Type 0} (test : X → Bool) (xs : List X) → every test xs ≡ true → AllByRecursion (λ x. test x ≡ true) xs
 all-every test [] e = tt
 all-every test (x ∷ xs) e = let p = and_parts (test x) (every test xs) e in (p.0, all-every test xs p.1)
 
 -- Those with the best figure. `up_to x m` says that x is no better than m; no figure is better than `best`, and what no figure
 -- is better than, `best` is not better than either.
 pub kept_best : {X : Type 0} (up_to : ℕ → ℕ → Bool) (figure : X → ℕ) (best : ℕ) (xs : List X) → ((m n : ℕ) → up_to m n ≡ true → up_to n m ≡ true → m ≡ n) →
-    All (λ x. up_to (figure x) best ≡ true) xs → All (λ x. every (λ y. up_to (figure y) (figure x)) xs ≡ true → up_to best (figure x) ≡ true) xs →
+    AllByRecursion (λ x. up_to (figure x) best ≡ true) xs → AllByRecursion (λ x. every (λ y. up_to (figure y) (figure x)) xs ≡ true → up_to best (figure x) ≡ true) xs →
     filter (λ x. every (λ y. up_to (figure y) (figure x)) xs) xs ≡ filter (λ x. eqb (figure x) best) xs
 kept_best up_to figure best xs same below tight = kept_same _ _ xs (each xs below tight)
   where
@@ -68,7 +68,7 @@ kept_best up_to figure best xs same below tight = kept_same _ _ xs (each xs belo
       ]
     ]
 
-    each : (ys : List _) → All (λ x. up_to (figure x) best ≡ true) ys → All (λ x. every (λ y. up_to (figure y) (figure x)) xs ≡ true → up_to best (figure x) ≡ true) ys →
-        All (λ x. every (λ y. up_to (figure y) (figure x)) xs ≡ eqb (figure x) best) ys
+    each : (ys : List _) → AllByRecursion (λ x. up_to (figure x) best ≡ true) ys → AllByRecursion (λ x. every (λ y. up_to (figure y) (figure x)) xs ≡ true → up_to best (figure x) ≡ true) ys →
+        AllByRecursion (λ x. every (λ y. up_to (figure y) (figure x)) xs ≡ eqb (figure x) best) ys
     each [] b t = tt
     each (y ∷ ys) b t = (one y b.0 t.0, each ys b.1 t.1)

@@ -1,6 +1,6 @@
 -- The limits of waiting orders, each once, price downward: they depend only on which limits there are.
 use Rattle.std.proofs.Common.{◌≡◌, ℕ, ◌<◌, ◌≤◌, Bool, true, false, ◌||◌, eqb, ltb, ◌⊎◌, List, [], ◌∷◌, ◌++◌, sym, refl, ap, ◌∙◌, subst, inl, inr, arith}
-use Rattle.std.specs.List.{AllByRecursion as All}
+use Rattle.std.specs.List.{AllByRecursion}
 use Rattle.std.proofs.ByRecursion.{All-weaker}
 use Rattle.std.proofs.lemmas.Bool.{cases_Bool, or_cases, or_left, or_right, both_ways, eqb-true, eqb-false, eq-eqb, ltb-true, ltb-false}
 use Rattle.market.specs.declared.order.Resting.{Resting}
@@ -11,7 +11,7 @@ use Rattle.pricing.proofs.Members.{swap_or}
 -- prices that go strictly downward
 abbrev pub Downward : List ℕ → Type 0
 Downward [] = Unit {0}
-Downward (p ∷ ps) = All (λ q. q < p) ps × Downward ps
+Downward (p ∷ ps) = AllByRecursion (λ q. q < p) ps × Downward ps
 
 -- whether q is one of the prices, and whether it is the limit of one of the orders
 abbrev pub among : ℕ → List ℕ → Bool
@@ -20,7 +20,7 @@ among q ps = some (λ p. eqb q p) ps
 abbrev pub has_limit : ℕ → List Resting → Bool
 has_limit q es = some (λ e. eqb q (limit_of e)) es
 
-all_among : (P : ℕ → Type 0) (ps : List ℕ) (q : ℕ) → All P ps → among q ps ≡ true → P q
+all_among : (P : ℕ → Type 0) (ps : List ℕ) (q : ℕ) → AllByRecursion P ps → among q ps ≡ true → P q
 all_among P [] q a e = absurd (both_ways false refl e)
 all_among P (p ∷ ps) q a e = elim (or_cases (eqb q p) (among q ps) e) [
   | inl t ↦ subst P (sym (eqb-true q p t)) a.0
@@ -74,7 +74,7 @@ among_into q p (r ∷ rs) = elim (cases_Bool (eqb p r)) [
   ]
 ]
 
-all-into : (P : ℕ → Type 0) (p : ℕ) (ps : List ℕ) → P p → All P ps → All P (into p ps)
+all-into : (P : ℕ → Type 0) (p : ℕ) (ps : List ℕ) → P p → AllByRecursion P ps → AllByRecursion P (into p ps)
 all-into P p [] h a = (h, tt)
 all-into P p (r ∷ rs) h a = elim (cases_Bool (eqb p r)) [
   | inl t ↦ rw t a
@@ -114,12 +114,12 @@ limits_same xs ys f = same_downward (limits_of xs) (limits_of ys) (limits_downwa
     (λ q h. limits_among q ys ∙ sym (f q) ∙ sym (limits_among q xs) ∙ h)
     (λ q h. limits_among q xs ∙ f q ∙ sym (limits_among q ys) ∙ h)
 
-all_limits : (P : ℕ → Type 0) (es : List Resting) → All (λ e. P (limit_of e)) es → All P (limits_of es)
+all_limits : (P : ℕ → Type 0) (es : List Resting) → AllByRecursion (λ e. P (limit_of e)) es → AllByRecursion P (limits_of es)
 all_limits P [] a = tt
 all_limits P (e ∷ es) a = all-into P (limit_of e) (limits_of es) a.0 (all_limits P es a.1)
 
 -- the limit p on top of lower ones
-pub limits_top : (p : ℕ) (xs ys : List Resting) → has_limit p xs ≡ true → All (λ e. limit_of e < p) ys →
+pub limits_top : (p : ℕ) (xs ys : List Resting) → has_limit p xs ≡ true → AllByRecursion (λ e. limit_of e < p) ys →
     ((q : ℕ) → has_limit q xs ≡ true → (q ≡ p) ⊎ (has_limit q ys ≡ true)) → ((q : ℕ) → has_limit q ys ≡ true → has_limit q xs ≡ true) →
     limits_of xs ≡ p ∷ limits_of ys
 limits_top p xs ys t l f g = same_downward (limits_of xs) (p ∷ limits_of ys) (limits_downward xs)
@@ -134,10 +134,10 @@ limits_top p xs ys t l f g = same_downward (limits_of xs) (p ∷ limits_of ys) (
     ])
 
 -- above what stands behind, where prices go downward
-pub downward_above : (qs : List ℕ) (p : ℕ) (ps : List ℕ) → Downward (qs ++ (p ∷ ps)) → All (λ q. p < q) qs
+pub downward_above : (qs : List ℕ) (p : ℕ) (ps : List ℕ) → Downward (qs ++ (p ∷ ps)) → AllByRecursion (λ q. p < q) qs
 downward_above [] p ps d = tt
 downward_above (q ∷ qs) p ps d = (behind qs d.0, downward_above qs p ps d.1)
   where
-    behind : (rs : List ℕ) → All (λ r. r < q) (rs ++ (p ∷ ps)) → p < q
+    behind : (rs : List ℕ) → AllByRecursion (λ r. r < q) (rs ++ (p ∷ ps)) → p < q
     behind [] a = a.0
     behind (r ∷ rs) a = behind rs a.1

@@ -1,12 +1,12 @@
 -- Whether some element of a list passes a test.
 use Rattle.std.proofs.Common.{◌≡◌, Bool, true, false, ◌||◌, ◌⊎◌, List, [], ◌∷◌, ◌++◌, reverse, sym, refl, ap, ◌∙◌, inl, inr}
 use mathlib.Core.List.{reverse_aux, reverse_aux-eq}
-use Rattle.std.specs.List.{AllByRecursion as All}
+use Rattle.std.specs.List.{AllByRecursion}
 use Rattle.std.proofs.lemmas.Bool.{or_cases, or_left, or_right, both_ways}
 use Rattle.market.specs.Orders.{some}
 
 -- what each element that passes gives
-pub some_gives : {X : Type 0} (test : X → Bool) (Q : Type 0) (xs : List X) → All (λ x. test x ≡ true → Q) xs → some test xs ≡ true → Q
+pub some_gives : {X : Type 0} (test : X → Bool) (Q : Type 0) (xs : List X) → AllByRecursion (λ x. test x ≡ true → Q) xs → some test xs ≡ true → Q
 some_gives test Q [] a e = absurd (both_ways false refl e)
 some_gives test Q (x ∷ xs) a e = elim (or_cases (test x) (some test xs) e) [
   | inl t ↦ a.0 t

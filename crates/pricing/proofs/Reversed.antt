@@ -2,7 +2,7 @@
 use Rattle.std.proofs.Common.{◌≡◌, ℕ, ◌+◌, ◌≤◌, min, List, [], ◌∷◌, ◌++◌, reverse, length, take, drop, ap, ◌∙◌, arith}
 use mathlib.Core.List.{reverse_aux}
 use native.Mathlib.Nat.{min_comm}
-use Rattle.std.specs.List.{AllByRecursion as All}
+use Rattle.std.specs.List.{AllByRecursion}
 use Rattle.std.proofs.lemmas.List.{length-reverse, length-take-le, length-append, take_at}
 use Rattle.ordered_list.proofs.Memory.{list_whole}
 use Rattle.units.specs.declared.side.Side.TheVariants.{Sell, Buy}
@@ -18,16 +18,16 @@ pub total-reverse : {X : Type 0} (f : X → ℕ) (xs : List X) → total f (reve
 total-reverse f xs = omega (arith, total_onto f xs [])
 
 -- one more stands in front of those that each of xs is no lower than
-one_more : (x : Resting) (ys xs : List Resting) → All (λ z. limit_of x ≤ limit_of z) xs → All (λ z. All (λ y. limit_of y ≤ limit_of z) ys) xs →
-    All (λ z. All (λ y. limit_of y ≤ limit_of z) (x ∷ ys)) xs
+one_more : (x : Resting) (ys xs : List Resting) → AllByRecursion (λ z. limit_of x ≤ limit_of z) xs → AllByRecursion (λ z. AllByRecursion (λ y. limit_of y ≤ limit_of z) ys) xs →
+    AllByRecursion (λ z. AllByRecursion (λ y. limit_of y ≤ limit_of z) (x ∷ ys)) xs
 one_more x ys [] a b = tt
 one_more x ys (z ∷ zs) a b = ((a.0, b.0), one_more x ys zs a.1 b.1)
 
-sorted_onto : (xs ys : List Resting) → Sorted Sell xs → Sorted Buy ys → All (λ z. All (λ y. limit_of y ≤ limit_of z) ys) xs → Sorted Buy (reverse_aux xs ys)
+sorted_onto : (xs ys : List Resting) → Sorted Sell xs → Sorted Buy ys → AllByRecursion (λ z. AllByRecursion (λ y. limit_of y ≤ limit_of z) ys) xs → Sorted Buy (reverse_aux xs ys)
 sorted_onto [] ys s t a = t
 sorted_onto (x ∷ xs) ys s t a = sorted_onto xs (x ∷ ys) s.1 (a.0, t) (one_more x ys xs s.0 a.1)
 
-none_yet : (xs : List Resting) → All (λ z. All (λ y. limit_of y ≤ limit_of z) []) xs
+none_yet : (xs : List Resting) → AllByRecursion (λ z. AllByRecursion (λ y. limit_of y ≤ limit_of z) []) xs
 none_yet [] = tt
 none_yet (x ∷ xs) = (tt, none_yet xs)
 

@@ -1,6 +1,6 @@
 -- What a queue's order says of its limits: the first is the best, and later ones are no better.
 use Rattle.std.proofs.Common.{◌≡◌, ℕ, ◌<◌, ◌≤◌, true, false, not, ltb, leb, List, [], ◌∷◌, sym, ap, ◌∙◌, inl, inr, arith}
-use Rattle.std.specs.List.{AllByRecursion as All}
+use Rattle.std.specs.List.{AllByRecursion}
 use Rattle.std.proofs.lemmas.Bool.{and_parts, not-true, leb-true, ltb-false, cases_Bool, cond-false}
 use Rattle.ordered_list.specs.Order.{rank_alike, after_none, in_order}
 use Rattle.units.specs.Ranges.{is_price}
@@ -23,7 +23,7 @@ Beyond Buy p q = q < p
 -- each limit is no better than those in front of it
 abbrev pub Sorted : Side → List Resting → Type 0
 Sorted side [] = Unit {0}
-Sorted side (e ∷ es) = All (λ x. Behind side (limit_of e) (limit_of x)) es × Sorted side es
+Sorted side (e ∷ es) = AllByRecursion (λ x. Behind side (limit_of e) (limit_of x)) es × Sorted side es
 
 -- what does not rank after is no further away
 away_le : (x y : Resting) → queue_after x y ≡ false → away_from_best x ≤ away_from_best y
@@ -43,8 +43,8 @@ behind_from Buy p q a b h = omega arith
 limit_most : (e : Resting) → is_price e.order.limit ≡ true → limit_of e ≤ 1000000000
 limit_most e h = leb-true (limit_of e) 1000000000 (and_parts (leb 1 (limit_of e)) (leb (limit_of e) 1000000000) h).1
 
-first_best : (side : Side) (e : Resting) (es : List Resting) → e.order.side ≡ side → limit_of e ≤ 1000000000 → All (λ x. x.order.side ≡ side) es →
-    All (λ x. is_price x.order.limit ≡ true) es → after_none queue_after e es ≡ true → All (λ x. Behind side (limit_of e) (limit_of x)) es
+first_best : (side : Side) (e : Resting) (es : List Resting) → e.order.side ≡ side → limit_of e ≤ 1000000000 → AllByRecursion (λ x. x.order.side ≡ side) es →
+    AllByRecursion (λ x. is_price x.order.limit ≡ true) es → after_none queue_after e es ≡ true → AllByRecursion (λ x. Behind side (limit_of e) (limit_of x)) es
 first_best side e [] s m ss ps o = tt
 first_best side e (x ∷ xs) s m ss ps o =
     let p = and_parts (not (queue_after e x)) (after_none queue_after e xs) o in
@@ -53,7 +53,7 @@ first_best side e (x ∷ xs) s m ss ps o =
     let v = ap (λ v. away_by v (limit_of x)) ss.0 in
     (behind_from side (limit_of e) (limit_of x) m (limit_most x ps.0) (omega arith), first_best side e xs s m ss.1 ps.1 p.1)
 
-sorted_from : (side : Side) (q : List Resting) → All (λ x. x.order.side ≡ side) q → All (λ x. is_price x.order.limit ≡ true) q →
+sorted_from : (side : Side) (q : List Resting) → AllByRecursion (λ x. x.order.side ≡ side) q → AllByRecursion (λ x. is_price x.order.limit ≡ true) q →
     in_order queue_after q ≡ true → Sorted side q
 sorted_from side [] ss ps o = tt
 sorted_from side (e ∷ es) ss ps o =

@@ -1,6 +1,6 @@
 -- The next limit of a walk price downward: no waiting limit is above it, and an order at the front has it.
 use Rattle.std.proofs.Common.{◌≡◌, ℕ, ◌+◌, ◌<◌, ◌≤◌, max, true, eqb, List, [], ◌∷◌, ◌++◌, length, get_or, Some, None, sym, refl, ap, inl, inr, arith}
-use Rattle.std.specs.List.{AllByRecursion as All}
+use Rattle.std.specs.List.{AllByRecursion}
 use Rattle.std.proofs.ByRecursion.{All-weaker}
 use Rattle.std.proofs.lemmas.Bool.{eq-eqb, or_left, cases_lt}
 use Rattle.units.specs.declared.quantity.Price.{Price}
@@ -50,12 +50,12 @@ fronted_some p os (b ∷ bs) (bid h) = omega (arith, front-some p b bs h)
 pub next_some : (os bs : List Resting) (price : Price) → next_limit os bs ≡ Some price → 0 < front_orders price.0 os + front_orders price.0 bs
 next_some os bs price e = fronted_some price.0 os bs (next_fronted os bs price e)
 
-all_top : (p : ℕ) (e : Resting) (es : List Resting) → Sorted Buy (e ∷ es) → limit_of e ≤ p → All (λ x. limit_of x ≤ p) (e ∷ es)
+all_top : (p : ℕ) (e : Resting) (es : List Resting) → Sorted Buy (e ∷ es) → limit_of e ≤ p → AllByRecursion (λ x. limit_of x ≤ p) (e ∷ es)
 all_top p e es s h = (h, All-weaker (λ x. limit_of x ≤ limit_of e) (λ x. limit_of x ≤ p) (λ x k. omega arith) es s.0)
 
 -- no limit is above the next one
 pub next_top : (os bs : List Resting) (price : Price) → Sorted Buy os → Sorted Buy bs → next_limit os bs ≡ Some price →
-    All (λ x. limit_of x ≤ price.0) os × All (λ x. limit_of x ≤ price.0) bs
+    AllByRecursion (λ x. limit_of x ≤ price.0) os × AllByRecursion (λ x. limit_of x ≤ price.0) bs
 next_top [] [] price s t e = (tt, tt)
 next_top (o ∷ os) [] price s t e =
     let h : o.order.limit ≡ price = cc in

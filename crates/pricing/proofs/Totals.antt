@@ -1,6 +1,6 @@
 -- Figures added up over lists.
 use Rattle.std.proofs.Common.{◌≡◌, ℕ, ◌+◌, Bool, true, false, List, [], ◌∷◌, ◌++◌, refl, arith}
-use Rattle.std.specs.List.{AllByRecursion as All}
+use Rattle.std.specs.List.{AllByRecursion}
 use Rattle.market.specs.Orders.{total, total_if}
 
 pub total-append : {X : Type 0} (f : X → ℕ) (xs ys : List X) → total f (xs ++ ys) ≡ total f xs + total f ys
@@ -8,11 +8,11 @@ total-append f [] ys = omega arith
 total-append f (x ∷ xs) ys = omega (arith, total-append f xs ys)
 
 -- where none passes the test
-pub total_none : {X : Type 0} (test : X → Bool) (f : X → ℕ) (xs : List X) → All (λ x. test x ≡ false) xs → total_if test f xs ≡ 0
+pub total_none : {X : Type 0} (test : X → Bool) (f : X → ℕ) (xs : List X) → AllByRecursion (λ x. test x ≡ false) xs → total_if test f xs ≡ 0
 total_none test f [] a = refl
 total_none test f (x ∷ xs) a = rw a.0 (omega (arith, total_none test f xs a.1))
 
 -- where each passes it
-pub total-whole : {X : Type 0} (test : X → Bool) (f : X → ℕ) (xs : List X) → All (λ x. test x ≡ true) xs → total_if test f xs ≡ total f xs
+pub total-whole : {X : Type 0} (test : X → Bool) (f : X → ℕ) (xs : List X) → AllByRecursion (λ x. test x ≡ true) xs → total_if test f xs ≡ total f xs
 total-whole test f [] a = refl
 total-whole test f (x ∷ xs) a = rw a.0 (omega (arith, total-whole test f xs a.1))

@@ -1,6 +1,6 @@
 -- A turn of the walk, as the code makes it: by indices into the queues, in memory, with sums that stop at what a u64 holds.
 use Rattle.std.proofs.Common.{◌≡◌, ℕ, ◌+◌, ◌-◌, ◌^◌, ◌<◌, ◌≤◌, min, false, eqb, ltb, List, [], ◌∷◌, ◌++◌, map, length, take, drop, Some, Option, sym, ap, ◌∙◌, arith}
-use Rattle.std.specs.List.{AllByRecursion as All}
+use Rattle.std.specs.List.{AllByRecursion}
 use Rattle.std.proofs.lemmas.List.{take_rest, drop-drop, length-drop}
 use Rattle.std.proofs.lemmas.List.Sums.{prefix_len-le-length}
 use Rattle.ordered_list.specs.Lists.{insert_memory, insert_len}
@@ -37,7 +37,7 @@ same_walk sells buys os bs os' bs' lines lines' s d s' d' a b c e f w = rw (a, b
 
 -- the lines so far have higher prices than the next one
 lines_higher : (sells buys os bs : List Resting) (lines : List Line) (s d : ℕ) (price : Price) → Walked sells buys os bs lines s d → next_limit os bs ≡ Some price →
-    All (λ l. by_price l (line_at sells buys price.0) ≡ false) lines
+    AllByRecursion (λ l. by_price l (line_at sells buys price.0) ≡ false) lines
 lines_higher sells buys os bs lines s d price w n =
     let p = price.0 in
     let ps = limits_of (drop (front_orders p os) os ++ drop (front_orders p bs) bs) in

@@ -1,6 +1,6 @@
 -- The walk price downward over both queues: what it has written, and what is left of it.
 use Rattle.std.proofs.Common.{◌≡◌, ℕ, zero, suc, ◌+◌, ◌-◌, ◌*◌, ◌<◌, ◌≤◌, true, false, cond, eqb, leb, ◌⊎◌, List, [], ◌∷◌, ◌++◌, map, reverse, take, drop, Some, None, sym, refl, ap, ◌∙◌, subst, inl, inr, append_assoc, arith}
-use Rattle.std.specs.List.{AllByRecursion as All}
+use Rattle.std.specs.List.{AllByRecursion}
 use Rattle.std.proofs.ByRecursion.{All-weaker, All-append, All-drop}
 use Rattle.std.proofs.lemmas.List.{take-append-drop, append-nil}
 use Rattle.std.proofs.lemmas.Bool.{eqb-true, le-leb, lt-leb}
@@ -29,13 +29,13 @@ pub record Walked (sells buys os bs : List Resting) (lines : List Line) (s d : �
   pub bids_down : Sorted Buy bs
   pub rest : lines ++ map (line_at sells buys) (limits_of (os ++ bs)) ≡ lines_at sells buys
   pub offered : s ≡ lots_in os
-  pub supplied : All (λ e. supply sells (limit_of e) ≡ supply os (limit_of e)) (os ++ bs)
-  pub asked : All (λ e. demand buys (limit_of e) ≡ d + demand bs (limit_of e)) (os ++ bs)
+  pub supplied : AllByRecursion (λ e. supply sells (limit_of e) ≡ supply os (limit_of e)) (os ++ bs)
+  pub asked : AllByRecursion (λ e. demand buys (limit_of e) ≡ d + demand bs (limit_of e)) (os ++ bs)
   pub few : s ≤ lots_in sells
   pub fewer : d + lots_in bs ≤ lots_in buys
 
 -- what holds at each order's limit holds at a limit that one has
-at_limit : (F : ℕ → Type 0) (es : List Resting) (p : ℕ) → All (λ e. F (limit_of e)) es → has_limit p es ≡ true → F p
+at_limit : (F : ℕ → Type 0) (es : List Resting) (p : ℕ) → AllByRecursion (λ e. F (limit_of e)) es → has_limit p es ≡ true → F p
 at_limit F es p a h =
     some_gives (λ e. eqb p (limit_of e)) (F p) es (All-weaker (λ e. F (limit_of e)) (λ e. eqb p (limit_of e) ≡ true → F p) (λ e f t. subst F (sym (eqb-true p (limit_of e) t)) f) es a) h
 
@@ -77,7 +77,7 @@ demand_below p q es l =
     omega (arith, z, front_lots_lem p es, level_total (λ e. cond (leb q (limit_of e)) (lots_of e) 0) p es)
 
 -- the demand at p has nothing of what is below p
-demand_none : (p : ℕ) (es : List Resting) → All (λ e. limit_of e < p) es → demand es p ≡ 0
+demand_none : (p : ℕ) (es : List Resting) → AllByRecursion (λ e. limit_of e < p) es → demand es p ≡ 0
 demand_none p es a = total_none (λ e. leb p (limit_of e)) lots_of es (All-weaker (λ e. limit_of e < p) (λ e. leb p (limit_of e) ≡ false) (λ e h. lt-leb p (limit_of e) h) es a)
 
 -- the walk begins with all orders left
@@ -100,12 +100,12 @@ walk_ends sells buys os bs lines s d w n =
     sym (append-nil lines) ∙ sym e ∙ w.rest
 
 -- what is below p of a list that the level at p stands in front of
-below_top : (p : ℕ) (es : List Resting) → Sorted Buy es → All (λ x. limit_of x ≤ p) es → All (λ x. limit_of x < p) (drop (front_orders p es) es)
+below_top : (p : ℕ) (es : List Resting) → Sorted Buy es → AllByRecursion (λ x. limit_of x ≤ p) es → AllByRecursion (λ x. limit_of x < p) (drop (front_orders p es) es)
 below_top p es s a = rest_beyond Buy p es s a
 
 -- what holds at the limits left goes over to those below p
-further : (P R : Resting → Type 0) (p : ℕ) (os bs : List Resting) → All (λ x. limit_of x < p) (drop (front_orders p os) os) → All (λ x. limit_of x < p) (drop (front_orders p bs) bs) →
-    ((x : Resting) → limit_of x < p → P x → R x) → All P (os ++ bs) → All R (drop (front_orders p os) os ++ drop (front_orders p bs) bs)
+further : (P R : Resting → Type 0) (p : ℕ) (os bs : List Resting) → AllByRecursion (λ x. limit_of x < p) (drop (front_orders p os) os) → AllByRecursion (λ x. limit_of x < p) (drop (front_orders p bs) bs) →
+    ((x : Resting) → limit_of x < p → P x → R x) → AllByRecursion P (os ++ bs) → AllByRecursion R (drop (front_orders p os) os ++ drop (front_orders p bs) bs)
 further P R p os bs a b f h =
     let k = all_parts P os bs h in
     All-append R (drop (front_orders p os) os) (drop (front_orders p bs) bs)
@@ -113,7 +113,7 @@ further P R p os bs a b f h =
     (all_both (λ x. limit_of x < p) P R f (drop (front_orders p bs) bs) b (All-drop P (front_orders p bs) bs k.1))
 
 -- the limits left are p and those behind the levels at p
-limits_next : (p : ℕ) (os bs : List Resting) → has_limit p (os ++ bs) ≡ true → All (λ x. limit_of x < p) (drop (front_orders p os) os) → All (λ x. limit_of x < p) (drop (front_orders p bs) bs) →
+limits_next : (p : ℕ) (os bs : List Resting) → has_limit p (os ++ bs) ≡ true → AllByRecursion (λ x. limit_of x < p) (drop (front_orders p os) os) → AllByRecursion (λ x. limit_of x < p) (drop (front_orders p bs) bs) →
     limits_of (os ++ bs) ≡ p ∷ limits_of (drop (front_orders p os) os ++ drop (front_orders p bs) bs)
 limits_next p os bs h a b =
     let os' = drop (front_orders p os) os in

@@ -1,6 +1,6 @@
 -- To take an order's entry out and note it is to annul what waits of the order.
 use Rattle.std.proofs.Common.{◌≡◌, ℕ, ◌+◌, ◌<◌, ◌≤◌, Bool, true, false, cond, not, eqb, ◌≢◌, List, [], ◌∷◌, ◌++◌, map, length, get_or, take, Some, None, sym, refl, ap, ◌∙◌, subst, arith}
-use Rattle.std.specs.List.{AllByRecursion as All}
+use Rattle.std.specs.List.{AllByRecursion}
 use Rattle.std.proofs.lemmas.List.{append-nil, length-take-le, get_or-take, take_more}
 use Rattle.std.proofs.lemmas.Bool.{eqb-true, eqb-false, ne_eqb}
 use Rattle.depository.specs.Calls.{release_after}
@@ -27,7 +27,7 @@ distinct_second [] q d = d
 distinct_second (e ∷ p) q d = distinct_second p q d.1
 
 -- a queue in which no entry is of order n
-pub none_of : (n : ℕ) (q : List Resting) → All (λ x. number_of x ≢ n) q → (without n q ≡ q) × (entries_of n q ≡ []) × (waiting_lots n q ≡ 0)
+pub none_of : (n : ℕ) (q : List Resting) → AllByRecursion (λ x. number_of x ≢ n) q → (without n q ≡ q) × (entries_of n q ≡ []) × (waiting_lots n q ≡ 0)
 none_of n [] a = (refl, refl, refl)
 none_of n (e ∷ q) a =
     let f : eqb (number_of e) n ≡ false = ne_eqb (number_of e) n a.0 in
@@ -40,7 +40,7 @@ without_first_lem n [] d = refl
 without_first_lem n (e ∷ q) d = by (eqb (number_of e) n) refl (without_first_lem n q d.1)
   where
     by : (t : Bool) → eqb (number_of e) n ≡ t → without_first n q ≡ without n q → cond t q (e ∷ without_first n q) ≡ cond (not t) (e ∷ without n q) (without n q)
-    by true h r = sym (none_of n q (subst (λ k. All (λ x. number_of x ≢ k) q) (eqb-true (number_of e) n h) d.0)).0
+    by true h r = sym (none_of n q (subst (λ k. AllByRecursion (λ x. number_of x ≢ k) q) (eqb-true (number_of e) n h) d.0)).0
     by false h r = ap (λ ys. e ∷ ys) r
 
 pub first_is : (n : ℕ) (q : List Resting) (e : Resting) → Distinct q → first_with n q ≡ Some e → (entries_of n q ≡ e ∷ []) × (waiting_lots n q ≡ lots_of e) × (number_of e ≡ n)
@@ -52,15 +52,15 @@ first_is n (x ∷ q) e d f = by (eqb (number_of x) n) refl (λ h. first_is n q e
         (cond t (x ∷ entries_of n q) (entries_of n q) ≡ e ∷ []) × (cond t (lots_of x) 0 + waiting_lots n q ≡ lots_of e) × (number_of e ≡ n)
     by true h r f =
         let same : x ≡ e = cc in
-        let none = none_of n q (subst (λ k. All (λ y. number_of y ≢ k) q) (eqb-true (number_of x) n h) d.0) in
+        let none = none_of n q (subst (λ k. AllByRecursion (λ y. number_of y ≢ k) q) (eqb-true (number_of x) n h) d.0) in
         (ap (λ ys. x ∷ ys) none.1 ∙ ap (λ y. y ∷ []) same, omega (arith, none.2, ap lots_of same), sym (ap number_of same) ∙ eqb-true (number_of x) n h)
     by false h r f = let k = r f in (k.0, omega (arith, k.1), k.2)
 
-pub first_none : (n : ℕ) (q : List Resting) → first_with n q ≡ None → All (λ x. number_of x ≢ n) q
+pub first_none : (n : ℕ) (q : List Resting) → first_with n q ≡ None → AllByRecursion (λ x. number_of x ≢ n) q
 first_none n [] f = tt
 first_none n (x ∷ q) f = by (eqb (number_of x) n) refl (λ h. first_none n q h) f
   where
-    by : (t : Bool) → eqb (number_of x) n ≡ t → (first_with n q ≡ None → All (λ y. number_of y ≢ n) q) → cond t (Some x) (first_with n q) ≡ None → All (λ y. number_of y ≢ n) (x ∷ q)
+    by : (t : Bool) → eqb (number_of x) n ≡ t → (first_with n q ≡ None → AllByRecursion (λ y. number_of y ≢ n) q) → cond t (Some x) (first_with n q) ≡ None → AllByRecursion (λ y. number_of y ≢ n) (x ∷ q)
     by true h r f = absurd (none_some x (sym f))
     by false h r f = (eqb-false (number_of x) n h, r f)
 

@@ -1,6 +1,6 @@
 -- To empty the queues first, and then to release and note what waited, order after order, is to annul order after order.
 use Rattle.std.proofs.Common.{◌≡◌, ℕ, zero, suc, ◌+◌, ◌<◌, ◌≤◌, Bool, true, false, cond, not, eqb, ◌≢◌, List, [], ◌∷◌, ◌++◌, map, length, get_or, take, drop, Some, None, Ok, Option, sym, refl, ap, ◌∙◌, subst, arith}
-use Rattle.std.specs.List.{AllByRecursion as All}
+use Rattle.std.specs.List.{AllByRecursion}
 use Rattle.std.proofs.lemmas.List.{append-nil, take_more, take_all, length-take-le}
 use Rattle.std.proofs.lemmas.Bool.{eqb-true, ne_eqb, cond-false}
 use Rattle.depository.specs.Calls.{release_answer, release_after}
@@ -31,12 +31,12 @@ numbered-at n (o ∷ os) zero d a low = omega (arith, a.0)
 numbered-at n (o ∷ os) (suc i) d a low = omega (arith, numbered-at (suc n) os i d a.1 (omega arith))
 
 -- those before have other numbers
-numbered_before : (n : ℕ) (os : List Order) (i : ℕ) → NumberedFrom n os → All (λ o. o.number.0 ≢ n + i) (take i os)
+numbered_before : (n : ℕ) (os : List Order) (i : ℕ) → NumberedFrom n os → AllByRecursion (λ o. o.number.0 ≢ n + i) (take i os)
 numbered_before n os zero a = tt
 numbered_before n [] (suc i) a = tt
 numbered_before n (o ∷ os) (suc i) a =
     let next : suc n + i ≡ n + suc i = omega arith in
-    (λ same. omega (arith, a.0), subst (λ k. All (λ (x : Order). x.number.0 ≢ k) (take i os)) next (numbered_before (suc n) os i a.1))
+    (λ same. omega (arith, a.0), subst (λ k. AllByRecursion (λ (x : Order). x.number.0 ≢ k) (take i os)) next (numbered_before (suc n) os i a.1))
 
 -- THE ENTRY OF AN ORDER stays as others are annulled
 
@@ -49,7 +49,7 @@ entries_without n m (e ∷ q) other = by (eqb (number_of e) m) refl (entries_wit
     by true h r = r ∙ sym (cond-false (eqb (number_of e) n) (e ∷ entries_of n q) (entries_of n q) (ne_eqb (number_of e) n (λ same. other (sym (eqb-true (number_of e) m h) ∙ same))))
     by false h r = ap (λ es. cond (eqb (number_of e) n) (e ∷ es) es) r
 
-entries_each : (n : ℕ) (os : List Order) (s : State) → All (λ o. o.number.0 ≢ n) os → entries_of n (waiting (annulled_each os s)) ≡ entries_of n (waiting s)
+entries_each : (n : ℕ) (os : List Order) (s : State) → AllByRecursion (λ o. o.number.0 ≢ n) os → entries_of n (waiting (annulled_each os s)) ≡ entries_of n (waiting s)
 entries_each n [] s a = refl
 entries_each n (o ∷ os) s a =
     entries_each n os (annulled o.number.0 s) a.1
@@ -63,7 +63,7 @@ so_far i s = annulled_each (take i s.orders) s
 entries_so_far : (i : ℕ) (s : State) → Books s → entries_of (i + 1) (waiting (so_far i s)) ≡ entries_of (i + 1) (waiting s)
 entries_so_far i s b =
     let n : 1 + i ≡ i + 1 = omega arith in
-    entries_each (i + 1) (take i s.orders) s (subst (λ k. All (λ (o : Order). o.number.0 ≢ k) (take i s.orders)) n (numbered_before 1 s.orders i b.numbered))
+    entries_each (i + 1) (take i s.orders) s (subst (λ k. AllByRecursion (λ (o : Order). o.number.0 ≢ k) (take i s.orders)) n (numbered_before 1 s.orders i b.numbered))
 
 -- the next order is that with the next number
 so_far_more : (i : ℕ) (s : State) → Books s → i < length s.orders → so_far (i + 1) s ≡ annulled (i + 1) (so_far i s)

@@ -1,6 +1,6 @@
 -- What stands in the slots, and how many of them are filled.
 use Rattle.std.proofs.Common.{◌≡◌, ℕ, zero, suc, ◌+◌, ◌<◌, ◌≤◌, Bool, true, false, cond, eqb, ◌≢◌, List, [], ◌∷◌, ◌++◌, length, get_or, drop, set, replicate, Some, None, Option, sym, refl, ap, ◌∙◌, subst, arith}
-use Rattle.std.specs.List.{AllByRecursion as All}
+use Rattle.std.specs.List.{AllByRecursion}
 use Rattle.std.proofs.lemmas.List.{at_drop_more, set_past, length-set, length-replicate, get_or-set_same, get_or-set_other, get_or-replicate}
 use Rattle.std.proofs.lemmas.Bool.{eqb-true, eqb-false, ne_eqb}
 use Rattle.market.specs.declared.order.Resting.{Resting}
@@ -72,7 +72,7 @@ by_number_long sells buys = length-slotted buys (slotted sells (replicate 513 No
 
 -- WHICH ENTRY STANDS WHERE
 
-none_first : (n : ℕ) (q : List Resting) → All (λ x. number_of x ≢ n) q → first_with n q ≡ None
+none_first : (n : ℕ) (q : List Resting) → AllByRecursion (λ x. number_of x ≢ n) q → first_with n q ≡ None
 none_first n [] a = refl
 none_first n (e ∷ q) a = let f : eqb (number_of e) n ≡ false = ne_eqb (number_of e) n a.0 in simp f (none_first n q a.1)
 
@@ -86,7 +86,7 @@ slot_at n (e ∷ q) slots d a low = by (eqb (number_of e) n) refl (slot_at n q (
         get_or (slotted q (set slots (number_of e) (Some e))) n d ≡ or_else (cond t (Some e) (first_with n q)) (get_or slots n d)
     by true h r =
         let same = eqb-true (number_of e) n h in
-        let others = none_first n q (subst (λ k. All (λ x. number_of x ≢ k) q) same a.0) in
+        let others = none_first n q (subst (λ k. AllByRecursion (λ x. number_of x ≢ k) q) same a.0) in
         r ∙ ap (λ o. or_else o (get_or (set slots (number_of e) (Some e)) n d)) others
         ∙ ap (λ k. get_or (set slots k (Some e)) n d) same ∙ get_or-set_same slots n (Some e) d low
     by false h r =

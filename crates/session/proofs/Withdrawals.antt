@@ -1,6 +1,6 @@
 -- What withdraw answers once the order is known to be the participant's own.
 use Rattle.std.proofs.Common.{◌≡◌, ◌<◌, true, eqb, ltb, Some, None, Ok, Err, sym, ap, ◌∙◌, subst, arith}
-use Rattle.std.specs.List.{AllByRecursion as All}
+use Rattle.std.specs.List.{AllByRecursion}
 use Rattle.std.proofs.ByRecursion.{all_kept_by, All-weaker}
 use Rattle.std.proofs.lemmas.Bool.{lt-ltb, le-ltb}
 use Rattle.units.specs.Answers.{check}
@@ -25,7 +25,7 @@ pub withdraws : (s : State) (who : Participant) (n : OrderNumber) (e : Resting) 
 withdraws s who n e trades known own f b =
     let i = first_is n.0 (waiting s) e b.distinct f in
     let waits = All-weaker (λ x. (0 < lots_of x) × _) (λ x. 0 < lots_of x) (λ x h. h.0) (waiting s) b.lots_wait in
-    let some = (subst (All (λ x. 0 < lots_of x)) i.0 (all_kept_by (λ x. eqb (number_of x) n.0) (λ x. 0 < lots_of x) (waiting s) waits)).0 in
+    let some = (subst (AllByRecursion (λ x. 0 < lots_of x)) i.0 (all_kept_by (λ x. eqb (number_of x) n.0) (λ x. 0 < lots_of x) (waiting s) waits)).0 in
     let t : ltb 0 (waiting_lots n.0 (waiting s)) ≡ true = lt-ltb 0 (waiting_lots n.0 (waiting s)) (omega (arith, some, i.1)) in
     ap (λ k. Ok (record { 0 = k })) (sym i.1) ∙ sym (own_order s who n trades known own ∙ simp t)
 

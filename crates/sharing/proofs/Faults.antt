@@ -1,6 +1,6 @@
 -- Which fault there is in lines and a total, and where there is none.
 use Rattle.std.proofs.Common.{◌≡◌, ℕ, zero, suc, ◌*◌, ◌<◌, ◌≤◌, Bool, true, false, cond, ltb, List, [], ◌∷◌, length, get_or, take, Some, None, Ok, Err, sum_by, sum, Option, sym, refl, ap, ◌∙◌, arith}
-use Rattle.std.specs.List.{AllByRecursion as All}
+use Rattle.std.specs.List.{AllByRecursion}
 use Rattle.std.proofs.lemmas.List.{take_all}
 use Rattle.std.proofs.lemmas.List.Sums.{sum-map}
 use Rattle.std.proofs.ByRecursion.{sum_by_le, All-map}
@@ -29,12 +29,12 @@ fault_free None x y e = (refl, cc)
 fault_free (Some g) x y e = absurd (grind arith)
 
 -- no line is too large where each is at most the largest
-none_over : (lots : List ℕ) → All (λ x. x ≤ largest_line) lots → some_over lots ≡ false
+none_over : (lots : List ℕ) → AllByRecursion (λ x. x ≤ largest_line) lots → some_over lots ≡ false
 none_over [] a = refl
 none_over (x ∷ xs) a = or_from (ltb largest_line x) (some_over xs) (le-ltb largest_line x a.0) (none_over xs a.1)
 
 -- and the other way round
-all_small : (lots : List ℕ) → some_over lots ≡ false → All (λ x. x ≤ largest_line) lots
+all_small : (lots : List ℕ) → some_over lots ≡ false → AllByRecursion (λ x. x ≤ largest_line) lots
 all_small [] e = tt
 all_small (x ∷ xs) e =
     let p = or_parts (ltb largest_line x) (some_over xs) e in (ltb-false largest_line x p.0, all_small xs p.1)
@@ -60,7 +60,7 @@ fault_large lines n i d h l o =
     simp (t, u)
 
 pub fault_total :
-    (lots : List ℕ) (n : ℕ) → length lots ≤ most_lines → All (λ x. x ≤ largest_line) lots → sum lots < n →
+    (lots : List ℕ) (n : ℕ) → length lots ≤ most_lines → AllByRecursion (λ x. x ≤ largest_line) lots → sum lots < n →
     fault_in lots n ≡ Some TotalTooLarge
 fault_total lots n h a l =
     let t = le-ltb most_lines (length lots) h in
@@ -109,8 +109,8 @@ written rule lines n e = ap (λ o. unless_fault o lines (filled lines (rule (lot
 -- what a pass over the lines has found when it is through
 pub seen_all :
     (lines : List Share) (i s : ℕ) → length lines ≤ i → s ≡ sum_by (λ line. line.lots.0) (take i lines) →
-    All Small (take i lines) →
-    (s ≡ sum (lots_of lines)) × All (λ x. x ≤ largest_line) (lots_of lines)
+    AllByRecursion Small (take i lines) →
+    (s ≡ sum (lots_of lines)) × AllByRecursion (λ x. x ≤ largest_line) (lots_of lines)
 seen_all lines i s h e a =
     let t = take_all i lines h in (
       e ∙ ap (λ xs. sum_by (λ line. line.lots.0) xs) t ∙ sym (sum-map (λ line. line.lots.0) lines),

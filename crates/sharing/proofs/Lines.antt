@@ -1,6 +1,6 @@
 -- Lines, and the shares that are written on them.
 use Rattle.std.proofs.Common.{◌≡◌, ℕ, ◌≤◌, List, [], ◌∷◌, length, refl, ap, arith}
-use Rattle.std.specs.List.{AllByRecursion as All}
+use Rattle.std.specs.List.{AllByRecursion}
 use Rattle.sharing.specs.declared.shares.Share.{Share}
 use Rattle.sharing.specs.Shares.{lots_of, shares_of, largest_line, filled}
 
@@ -36,6 +36,6 @@ filled-filled (x ∷ xs) (y ∷ ys) (z ∷ zs) e =
 
 -- which each is where no lots are too large
 pub lines_small :
-    (lines : List Share) → All (λ x. x ≤ largest_line) (lots_of lines) → All Small lines
+    (lines : List Share) → AllByRecursion (λ x. x ≤ largest_line) (lots_of lines) → AllByRecursion Small lines
 lines_small [] a = tt
 lines_small (x ∷ xs) a = (a.0, lines_small xs a.1)

@@ -1,6 +1,6 @@
 -- What every sharing rule is asked, answers and writes, whatever shares it gives.
 use Rattle.std.specs.Prelude.{ℕ, ◌≤◌, Bool, false, cond, ◌||◌, List, [], ◌∷◌, map, length, Some, None, Ok, Err, sum, Option, Result, nat_lt}
-use Rattle.std.specs.List.{AllByRecursion as All}
+use Rattle.std.specs.List.{AllByRecursion}
 use Rattle.units.specs.declared.quantity.Lots.{Lots}
 use Rattle.sharing.specs.declared.shares.Share.{Share}
 use Rattle.sharing.specs.declared.fault.SharingFault.{SharingFault}
@@ -24,7 +24,7 @@ largest_line = 1000000
 -- what a rule has to share out: not too many lines, none too large, and a total that their lots reach
 pub record Accepted (lots : List ℕ) (total : ℕ) : Type 0 where
   pub few : length lots ≤ most_lines
-  pub small : All (λ x. x ≤ largest_line) lots
+  pub small : AllByRecursion (λ x. x ≤ largest_line) lots
   pub reached : total ≤ sum lots
 
 -- whether some line is too large

@@ -1,7 +1,7 @@
 -- A pass over a list that writes every element, by the element and by a state that it carries along.
 use Rattle.std.specs.Prelude.{◌≡◌, ℕ, ◌+◌, ◌<◌, ◌≤◌, List, [], ◌∷◌, ◌++◌, length, take, drop, slice_index_or, slice_set}
 use Rattle.std.proofs.Common.{sym, ap, append_assoc, arith}
-use Rattle.std.specs.List.{AllByRecursion as All}
+use Rattle.std.specs.List.{AllByRecursion}
 use Rattle.std.proofs.lemmas.List.{take_all, drop_all, append-nil, drop_more, take_more_set, drop-set-lt}
 
 module _ {S X : Type 0} (write : S → X → X) (next : S → X → S) where
@@ -49,8 +49,8 @@ module _ {S X : Type 0} (write : S → X → X) (next : S → X → S) where
 
 -- what holds of each element that the pass has yet to reach
 pub ahead_more :
-    {X : Type 0} (P : X → Type 0) (xs : List X) (i : ℕ) (y d : X) → i < length xs → All P (drop i xs) →
-    P (slice_index_or xs i d) × All P (drop (i + 1) (slice_set xs i y))
+    {X : Type 0} (P : X → Type 0) (xs : List X) (i : ℕ) (y d : X) → i < length xs → AllByRecursion P (drop i xs) →
+    P (slice_index_or xs i d) × AllByRecursion P (drop (i + 1) (slice_set xs i y))
 ahead_more P xs i y d h a =
     let q = drop-set-lt (i + 1) xs i y (omega arith) in
     let b = rw (drop_more xs i d h) at a in

@@ -1,5 +1,5 @@
 use Rattle.std.proofs.Common.{◌≡◌, take, sum_by}
-use Rattle.std.specs.List.{AllByRecursion as All}
+use Rattle.std.specs.List.{AllByRecursion}
 use Rattle.sharing.proofs.Lines.{Small}
 use Rattle.sharing.proofs.check.checked_sum.Given as goal
 
@@ -7,4 +7,4 @@ use Rattle.sharing.proofs.check.checked_sum.Given as goal
 abbrev pub invariant-loop-line : goal.invariant-loop-line
 invariant-loop-line l =
     (l.sum ≡ sum_by (λ line. line.lots.0) (take l.line-index l.lines)) ×
-    All Small (take l.line-index l.lines)
+    AllByRecursion Small (take l.line-index l.lines)

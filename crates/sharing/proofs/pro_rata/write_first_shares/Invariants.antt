@@ -1,5 +1,5 @@
 use Rattle.std.proofs.Common.{◌≡◌, drop}
-use Rattle.std.specs.List.{AllByRecursion as All}
+use Rattle.std.specs.List.{AllByRecursion}
 use Rattle.sharing.proofs.Lines.{Small}
 use Rattle.sharing.specs.Walks.{walk, walk_from, walk_end}
 use Rattle.sharing.proofs.RataPasses.{first-write, first_next}
@@ -14,4 +14,4 @@ invariant-loop-line l =
     walk (first-write n s) (first_next n s) 0 l.initial.lines) ×
     (walk_end (first-write n s) (first_next n s) l.given (drop l.line-index l.lines) ≡
     walk_end (first-write n s) (first_next n s) 0 l.initial.lines) ×
-    All Small (drop l.line-index l.lines)
+    AllByRecursion Small (drop l.line-index l.lines)
