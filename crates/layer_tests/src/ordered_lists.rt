@@ -1,5 +1,5 @@
 ghost use Rattle.ordered_list.specs.Keys.{upward, downward, then_by};
-ghost use Rattle.layer_tests.specs.LineRankedLemmas.{lawful};
+ghost use Rattle.ordered_list.proofs.Keys.{upward-lawful, downward-lawful, then_lawful};
 
 use ordered_list::{ListFault, OrderedList, Ranked};
 
@@ -13,11 +13,11 @@ struct Line {
 impl Ranked for Line {
     ghost after = { then_by (downward (λ l. l.price)) (upward (λ l. l.number)) };
 
-    ghost apart = { lawful.apart };
+    ghost apart = { (then_lawful (downward (λ l. l.price)) (upward (λ l. l.number)) (downward-lawful (λ l. l.price)) (upward-lawful (λ l. l.number))).apart };
 
-    ghost chain = { lawful.chain };
+    ghost chain = { (then_lawful (downward (λ l. l.price)) (upward (λ l. l.number)) (downward-lawful (λ l. l.price)) (upward-lawful (λ l. l.number))).chain };
 
-    ghost alike = { lawful.alike };
+    ghost alike = { (then_lawful (downward (λ l. l.price)) (upward (λ l. l.number)) (downward-lawful (λ l. l.price)) (upward-lawful (λ l. l.number))).alike };
 
     fn ranks_after(&self, other: &Line) -> bool {
         if self.price == other.price {
