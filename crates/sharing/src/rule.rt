@@ -17,8 +17,8 @@ use units::Lots;
 /// 3. Let `share` begin with `checked_sum(lines, total)?`, which refuses exactly where every rule refuses, and answers the
 ///    sum of the lots. Then write each line's share, and leave its lots. Nothing is written before the check.
 ///
-/// Of this crate's lemmas, `check-passed`, `answered` and `written` (proofs/Faults.antt) close the method's two clauses, and
-/// those of proofs/Walks.antt a loop that writes a share on each line.
+/// Of this crate's lemmas, `check_passed`, `answered` and `written` (proofs/Faults.antt) close the method's two clauses, and
+/// those of specs/Walks.antt a loop that writes a share on each line.
 pub trait SharingRule {
     /// The shares of the lines with these lots, in their order, out of this total.
     ghost shares: { Self → List ℕ → ℕ → List ℕ };
