@@ -1,18 +1,19 @@
--- Answers that hand a strike slip out or back. A slip says nothing, so there is but one.
-use Rattle.std.specs.Prelude.{Some, None, Ok, Err, Option, Result}
+-- Answers that hand a strike slip out or back. All that a slip says is whether it is spent.
+use Rattle.std.specs.Prelude.{false, Some, None, Ok, Err, Option, Result}
 use Rattle.units.specs.declared.quantity.Price.{Price}
 use Rattle.market.specs.declared.fault.SessionFault.{SessionFault}
 use Rattle.session.specs.declared.slip.StrikeSlip.{StrikeSlip}
 use Rattle.session.specs.declared.strike.Struck.{Struck}
 use Rattle.session.specs.declared.strike.Struck.TheVariants.{Abandoned, At}
 
+-- a slip as a strike makes it
 abbrev pub the_slip : StrikeSlip
-the_slip = record { made = tt }
+the_slip = record { spent = false }
 
 -- a refusal hands the slip back
-abbrev pub handing_back : {T : Type 0} → Result T SessionFault → Result T (SessionFault × StrikeSlip)
-handing_back (Ok x) = Ok x
-handing_back (Err fault) = Err (fault, the_slip)
+abbrev pub handing_back : {T : Type 0} → StrikeSlip → Result T SessionFault → Result T (SessionFault × StrikeSlip)
+handing_back slip (Ok x) = Ok x
+handing_back slip (Err fault) = Err (fault, slip)
 
 -- a strike that finds a cut-off hands a slip out with it
 abbrev pub with_slip : Option Price → Struck

@@ -16,7 +16,7 @@ impl<D: Depository> Session<D> {
     /// Ends a struck iteration without deals: annuls all that waits, and answers how many lots that was. Gathering follows.
     /// It spends the slip; where it refuses (21), the slip comes back.
     pub fn annul(&mut self, slip: StrikeSlip) -> Result<Lots, (SessionFault, StrikeSlip)>
-        ensures answer { Kept (state_of D.AccountBook.accounts self.old) → result ≡ handing_back (annul_answer (state_of D.AccountBook.accounts self.old)) }
+        ensures answer { Kept (state_of D.AccountBook.accounts self.old) → result ≡ handing_back slip (annul_answer (state_of D.AccountBook.accounts self.old)) }
         ensures after { Kept (state_of D.AccountBook.accounts self.old) → state_of D.AccountBook.accounts self.new ≡ annul_after (state_of D.AccountBook.accounts self.old) }
     {
         if !is_struck(self.phase) {

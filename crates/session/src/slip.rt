@@ -1,28 +1,28 @@
-ghost use Rattle.std.specs.Prelude.{◌≡◌};
+ghost use Rattle.std.specs.Prelude.{◌≡◌, true, false};
 
 /// What a strike hands out: it stands for an iteration that is struck and has still to end. It names no session and no
-/// price. Deal and annul take it, and nothing else does: it can be kept and handed on, and never let go.
+/// price. Deal and annul take it, and nothing else does: it can be kept and handed on, and not let go before it is spent.
 pub struct StrikeSlip {
-    made: (),
+    spent: bool,
 }
 
-// to let one go is never allowed, so its drop asks for what nobody can show
+// to let one go asks that it is spent, which nobody can show of a slip that a strike hands out
 impl Drop for StrikeSlip {
     fn drop(self)
-        requires { ⊥ }
+        requires { self.spent ≡ true }
     {
-        let StrikeSlip { made: () } = self;
+        let StrikeSlip { spent: _ } = self;
     }
 }
 
 impl StrikeSlip {
     pub(crate) fn make() -> StrikeSlip
-        ensures { result.made ≡ tt }
+        ensures { result.spent ≡ false }
     {
-        StrikeSlip { made: () }
+        StrikeSlip { spent: false }
     }
 
-    pub(crate) fn spend(self) {
-        let StrikeSlip { made: () } = self;
+    pub(crate) fn spend(mut self) {
+        self.spent = true;
     }
 }

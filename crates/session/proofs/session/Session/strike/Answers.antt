@@ -1,5 +1,10 @@
-use Rattle.std.proofs.Common.{Some, None, sym, ◌∙◌}
+use Rattle.std.proofs.Common.{◌≡◌, Bool, Some, None, Ok, sym, ap, subst, ◌∙◌}
 use Rattle.units.proofs.Checks.{ok_not_err}
+use Rattle.units.specs.Answers.{answered}
+use Rattle.session.specs.declared.strike.Struck.TheVariants.{At}
+use Rattle.session.specs.declared.slip.StrikeSlip.{StrikeSlip}
+use Rattle.session.specs.Slips.{the_slip, with_slip}
+use Rattle.market.specs.Calls.{strike_answer}
 use Rattle.market.specs.Law.{Kept}
 use Rattle.market.proofs.KeptCalls.{gathering-books}
 use Rattle.market.proofs.Peak.{greatest-between}
@@ -25,7 +30,9 @@ returns-in-Some g c =
     let s = state_of g.D.AccountBook.accounts c.args.self.now in
     let gathers = c.if-not-is_gathering.ensures in
     let found = λ (k : Kept s). struck s (Some c.in-Some.cut_off) gathers (c.in-Some.ensures (gathering-books s k (sym gathers))) in
-    record { answer = λ k. (found k).0; after = λ k. (found k).1; greatest = greatest-between s.sells s.buys }
+    let P : StrikeSlip → Type 0 = λ slip. Ok (At c.in-Some.cut_off slip) ≡ answered with_slip (strike_answer s) in
+    let slip : the_slip ≡ c.make.result = ap (λ (b : Bool). let x : StrikeSlip = record { spent = b } in x) (sym c.make.ensures) in
+    record { answer = λ k. subst P slip (found k).0; after = λ k. (found k).1; greatest = greatest-between s.sells s.buys }
 
 pub returns-in_ok-annul_all-in-None : goal.returns-in_ok-annul_all-in-None
 returns-in_ok-annul_all-in-None g c =
