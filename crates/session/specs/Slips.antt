@@ -1,5 +1,5 @@
 -- Answers that hand a strike slip out or back. All that a slip says is whether it is spent.
-use Rattle.std.specs.Prelude.{false, Some, None, Ok, Err, Option, Result}
+use Rattle.std.specs.Prelude.{◌≡◌, false, Some, None, Ok, Err, IfSome, Option, Result}
 use Rattle.units.specs.declared.quantity.Price.{Price}
 use Rattle.market.specs.declared.fault.SessionFault.{SessionFault}
 use Rattle.session.specs.declared.slip.StrikeSlip.{StrikeSlip}
@@ -19,3 +19,13 @@ handing_back slip (Err fault) = Err (fault, slip)
 abbrev pub with_slip : Option Price → Struck
 with_slip None = Abandoned
 with_slip (Some c) = At c the_slip
+
+-- a slip that is held is not spent
+abbrev pub IsUnspent : Option StrikeSlip → Type 0
+IsUnspent held = IfSome held (λ slip. slip.spent ≡ false)
+
+-- a slip that a strike hands out is not spent
+abbrev pub GivesUnspent : Result Struck SessionFault → Type 0
+GivesUnspent (Ok (At c slip)) = slip.spent ≡ false
+GivesUnspent (Ok Abandoned) = Unit {0}
+GivesUnspent (Err fault) = Unit {0}

@@ -1,4 +1,4 @@
-ghost use Rattle.std.specs.Prelude.{◌≡◌};
+ghost use Rattle.std.specs.Prelude.{◌≡◌, IfErr};
 ghost use Rattle.market.specs.Calls.{annul_answer, annul_after, close_answer, close_after};
 ghost use Rattle.market.specs.Law.{Kept};
 ghost use Rattle.session.specs.Opening.{hand_back_answer};
@@ -17,6 +17,7 @@ impl<D: Depository> Session<D> {
     /// It spends the slip; where it refuses (21), the slip comes back.
     pub fn annul(&mut self, slip: StrikeSlip) -> Result<Lots, (SessionFault, StrikeSlip)>
         ensures answer { Kept (state_of D.AccountBook.accounts self.old) → result ≡ handing_back slip (annul_answer (state_of D.AccountBook.accounts self.old)) }
+        ensures back { IfErr result (λ refused. refused.1 ≡ slip) }
         ensures after { Kept (state_of D.AccountBook.accounts self.old) → state_of D.AccountBook.accounts self.new ≡ annul_after (state_of D.AccountBook.accounts self.old) }
     {
         if !is_struck(self.phase) {

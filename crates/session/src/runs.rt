@@ -3,6 +3,7 @@ ghost use Rattle.market.specs.declared.call.Call.TheVariants.{Strike as Striking
 ghost use Rattle.market.specs.Law.{Kept, SoundFrom, Law};
 ghost use Rattle.market.specs.Runs.{answer_to, desk_after, Run};
 ghost use Rattle.session.specs.Desks.{desk_of, calls_made};
+ghost use Rattle.session.specs.Slips.{IsUnspent};
 ghost use Rattle.session.specs.States.{state_of};
 
 use super::session::Session;
@@ -21,6 +22,7 @@ pub fn run<D: Depository>(
     answers: &mut [Answer],
 ) -> Option<StrikeSlip>
     ensures run { Kept (state_of D.AccountBook.accounts session.old) → Run (desk_of D.AccountBook.accounts session.old slip) (calls_made calls.now answers.new) (desk_of D.AccountBook.accounts session.new result) }
+    ensures unspent { IsUnspent slip → IsUnspent result }
     ensures behind { drop (min (length calls.now) (length answers.old)) answers.new ≡ drop (min (length calls.now) (length answers.old)) answers.old }
     ensures sound { SoundFrom (desk_of D.AccountBook.accounts session.old slip) (state_of D.AccountBook.accounts session.new) }
     ensures law { Law }
@@ -41,6 +43,7 @@ fn step<D: Depository>(
     call: Call,
 ) -> (Answer, Option<StrikeSlip>)
     ensures answer { Kept (state_of D.AccountBook.accounts session.old) → result.0 ≡ answer_to call (desk_of D.AccountBook.accounts session.old slip) }
+    ensures unspent { IsUnspent slip → IsUnspent result.1 }
     ensures after { Kept (state_of D.AccountBook.accounts session.old) → desk_of D.AccountBook.accounts session.new result.1 ≡ desk_after call (desk_of D.AccountBook.accounts session.old slip) }
 {
     match call {
@@ -72,6 +75,7 @@ fn strike<D: Depository>(
     slip: Option<StrikeSlip>,
 ) -> (Answer, Option<StrikeSlip>)
     ensures answer { Kept (state_of D.AccountBook.accounts session.old) → result.0 ≡ answer_to Striking (desk_of D.AccountBook.accounts session.old slip) }
+    ensures unspent { IsUnspent slip → IsUnspent result.1 }
     ensures after { Kept (state_of D.AccountBook.accounts session.old) → desk_of D.AccountBook.accounts session.new result.1 ≡ desk_after Striking (desk_of D.AccountBook.accounts session.old slip) }
 {
     match slip {
@@ -90,6 +94,7 @@ fn annul<D: Depository>(
     slip: Option<StrikeSlip>,
 ) -> (Answer, Option<StrikeSlip>)
     ensures answer { Kept (state_of D.AccountBook.accounts session.old) → result.0 ≡ answer_to Annulling (desk_of D.AccountBook.accounts session.old slip) }
+    ensures unspent { IsUnspent slip → IsUnspent result.1 }
     ensures after { Kept (state_of D.AccountBook.accounts session.old) → desk_of D.AccountBook.accounts session.new result.1 ≡ desk_after Annulling (desk_of D.AccountBook.accounts session.old slip) }
 {
     match slip {

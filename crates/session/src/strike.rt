@@ -3,7 +3,7 @@ ghost use Rattle.units.specs.Answers.{answered};
 ghost use Rattle.market.specs.CutOff.{crosses, cut_off_found, GreatestBetween};
 ghost use Rattle.market.specs.Calls.{strike_answer, strike_after};
 ghost use Rattle.market.specs.Law.{Books, Kept};
-ghost use Rattle.session.specs.Slips.{with_slip};
+ghost use Rattle.session.specs.Slips.{with_slip, GivesUnspent};
 ghost use Rattle.session.specs.States.{state_of};
 
 use super::phases::is_gathering;
@@ -26,6 +26,7 @@ impl<D: Depository> Session<D> {
     pub fn strike(&mut self) -> Result<Struck, SessionFault>
         ensures answer { Kept (state_of D.AccountBook.accounts self.old) → result ≡ answered with_slip (strike_answer (state_of D.AccountBook.accounts self.old)) }
         ensures after { Kept (state_of D.AccountBook.accounts self.old) → state_of D.AccountBook.accounts self.new ≡ strike_after (state_of D.AccountBook.accounts self.old) }
+        ensures unspent { GivesUnspent result }
         ensures greatest { crosses (state_of D.AccountBook.accounts self.old).sells (state_of D.AccountBook.accounts self.old).buys ≡ true → GreatestBetween (state_of D.AccountBook.accounts self.old).sells (state_of D.AccountBook.accounts self.old).buys }
     {
         if !is_gathering(self.phase) {

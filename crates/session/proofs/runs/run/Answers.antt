@@ -19,6 +19,7 @@ loop-i-preserved g c =
           let kept = run_kept start (calls_made (take i c.args.calls.now) (take i c.loop-i.answers)) here k so_far in
           run_next start c.args.calls.now c.loop-i.answers i _ here _ c.step-answer.result.0 low room so_far (c.step-answer.ensures.answer kept) (c.step-answer.ensures.after kept),
       behind_next c.loop-i.answers c.args.answers.now i c.step-answer.result.0 c.loop-i.invariant.1,
+      λ u. c.step-answer.ensures.unspent (c.loop-i.invariant.2 u),
     )
 
 pub returns : goal.returns
@@ -34,6 +35,7 @@ returns g c =
     record {
       run = done;
       behind = subst (λ m. drop m c.loop-i.answers ≡ drop m c.args.answers.now) n c.loop-i.invariant.1;
+      unspent = c.loop-i.invariant.2;
       sound = sound_from start made end done;
       law = law;
     }
