@@ -17,6 +17,7 @@ use scene::carry_out;
 use sharing::{ByTime, ProRata};
 use sparse_depository::SparseDepository;
 use std::io;
+use std::process::ExitCode;
 use table_depository::TableDepository;
 use units::RefusalCode;
 
@@ -70,8 +71,8 @@ fn all_four(rt: &HostRuntime) -> Result<(), AllotmentFault> {
     Ok(())
 }
 
-/// One line that says what was wrong.
-fn say(rt: &HostRuntime, fault: AllotmentFault) -> io::Result<()> {
+/// One line that says what was wrong, and the exit status of a run that was refused.
+fn say(rt: &HostRuntime, fault: AllotmentFault) -> io::Result<ExitCode> {
     let RefusalCode { layer, number } = match fault {
         AllotmentFault::Depository(fault) => fault.code(),
         AllotmentFault::Sharing(fault) => fault.code(),
@@ -79,12 +80,12 @@ fn say(rt: &HostRuntime, fault: AllotmentFault) -> io::Result<()> {
         AllotmentFault::Printing(fault) => return Err(fault),
     };
     eprintln!(rt; "allotment: refused, layer {layer}, number {number}")?;
-    Err(io::Error::from(io::ErrorKind::Other))
+    Ok(ExitCode::FAILURE)
 }
 
-fn main(rt: HostRuntime) -> io::Result<()> {
+fn main(rt: HostRuntime) -> io::Result<ExitCode> {
     match all_four(&rt) {
-        Ok(()) => Ok(()),
+        Ok(()) => Ok(ExitCode::SUCCESS),
         Err(fault) => say(&rt, fault),
     }
 }
