@@ -2,7 +2,7 @@ ghost use Rattle.std.specs.Prelude.{◌≡◌};
 ghost use Rattle.units.specs.Ranges.{is_participant};
 
 /// The number of a participant. The market has 1 to 64; any other number is nobody's, and calls refuse it.
-#[derive(Clone, Copy)]
+#[derive(Clone, Copy, Debug, PartialEq, Eq, PartialOrd, Ord, Default)]
 pub struct Participant(pub u16);
 
 impl Participant {

@@ -3,16 +3,16 @@ ghost use Rattle.units.specs.Ranges.{is_price, is_order_size};
 ghost use Rattle.units.specs.Worth.{worth};
 
 /// A price in whole price steps. An order's limit and a cut-off lie from 1 to 1,000,000,000.
-#[derive(Clone, Copy)]
+#[derive(Clone, Copy, Debug, PartialEq, Eq, PartialOrd, Ord, Default)]
 pub struct Price(pub u32);
 
 /// A number of lots. One order has 1 to 1,000,000, all participants together at most 10^12.
-#[derive(Clone, Copy)]
+#[derive(Clone, Copy, Debug, PartialEq, Eq, PartialOrd, Ord, Default)]
 pub struct Lots(pub u64);
 
 /// Money: price steps times lots. All participants together have at most 10^18.
 /// It is wide enough for any price times any lots, so a product is never refused.
-#[derive(Clone, Copy)]
+#[derive(Clone, Copy, Debug, PartialEq, Eq, PartialOrd, Ord, Default)]
 pub struct Money(pub u128);
 
 impl Price {
