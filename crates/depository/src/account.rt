@@ -4,7 +4,7 @@ ghost use Rattle.depository.specs.Accounts.{is_empty};
 use units::{Lots, Money};
 
 /// What one participant holds. Blocked amounts cover waiting orders; free ones are at the participant's hand.
-#[derive(Clone, Copy)]
+#[derive(Clone, Copy, PartialEq, Eq)]
 pub struct Account {
     pub free_lots: Lots,
     pub blocked_lots: Lots,
@@ -24,9 +24,6 @@ impl Account {
     pub fn is_empty(self) -> bool
         ensures { result ≡ is_empty self }
     {
-        self.free_lots.0 == 0
-            && self.blocked_lots.0 == 0
-            && self.free_money.0 == 0
-            && self.blocked_money.0 == 0
+        self == Account::EMPTY
     }
 }

@@ -10,7 +10,7 @@ use super::fault::DepositoryFault;
 use units::{Lots, Money, Participant};
 
 /// So many lots and so much money.
-#[derive(Clone, Copy)]
+#[derive(Clone, Copy, PartialEq, Eq)]
 pub struct Holdings {
     pub lots: Lots,
     pub money: Money,

@@ -1,11 +1,14 @@
 ghost use Rattle.std.specs.Prelude.{◌≡◌, ◌+◌, Ok, nat_le};
 ghost use Rattle.units.specs.Answers.{check};
 ghost use Rattle.depository.specs.Amounts.{size, free_of, blocked_of, most_of, has_free, has_blocked, securing, gaining, losing, surrendering};
-ghost use Rattle.account_store.specs.Changes.{after_answer};
+ghost use Rattle.depository.specs.Changes.{after_answer};
 ghost use Rattle.depository.specs.declared.fault.DepositoryFault.TheVariants.{FreeTooSmall as TooLittleFree, BlockedTooSmall as TooLittleBlocked, PastTotal as TooMuch};
 
+use super::account::Account;
+use super::amount::Amount;
 use super::change::Change;
-use depository::{Account, Amount, DepositoryFault, Holdings};
+use super::fault::DepositoryFault;
+use super::held::Holdings;
 
 /// The account after the change. No figure may pass what all participants together may hold of its kind.
 pub fn after(account: Account, change: Change) -> Result<Account, DepositoryFault>
