@@ -81,9 +81,3 @@ room_surrendered xs w long p known (Lots n) h =
     omega (arith, in_all-set lots_held xs (p.0 - 1) (surrendering (Lots n) (of xs p)) (place_known xs long p known), leb-true _ _ h)
 room_surrendered xs w long p known (Money n) h =
     omega (arith, in_all-set money_held xs (p.0 - 1) (surrendering (Money n) (of xs p)) (place_known xs long p known), leb-true _ _ h)
-
--- what is added up so far, with the next account, is within the bound of all
-pub next_within : (figure : Account → ℕ) (xs : List Account) (i : ℕ) (a : Account) (sum most : ℕ) → i < length xs →
-    Ok a ≡ balances_answer xs (record { 0 = i + 1 }) → sum + in_all figure (drop i xs) ≡ in_all figure xs → in_all figure xs ≤ most →
-    sum + figure a ≤ most
-next_within figure xs i a sum most lt e so_far bound = omega (arith, in_all_next figure xs i a lt e)

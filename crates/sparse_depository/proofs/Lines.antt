@@ -11,7 +11,7 @@ use Rattle.depository.specs.declared.account.Account.{Account}
 use Rattle.sparse_depository.specs.declared.entry.AccountEntry.{AccountEntry}
 use Rattle.depository.specs.Accounts.{is_empty}
 use Rattle.sparse_depository.specs.Entries.{number, by_participant, rising, without, replaced, nobody}
-use Rattle.sparse_depository.specs.EntriesLemmas.{found}
+use Rattle.sparse_depository.specs.EntriesLemmas.{without_found}
 
 -- the list never passes the end of its memory
 pub few_removed : {X : Type 0} (len : ℕ) (memory : List X) (at : ℕ) → len ≤ length memory → remove_len len memory at ≤ length memory
@@ -28,7 +28,7 @@ pub entry_goes : (p : ℕ) (es shown : List AccountEntry) (i : ℕ) → shown �
 entry_goes p es shown i same rises there =
     let P : List AccountEntry → Type 0 = λ xs. (i < length xs) × (number (get_or xs i nobody) ≡ p) in
     let here = subst P same there in
-    (found 1 p es i here.0 here.1 rises).1
+    without_found 1 p es i here.0 here.1 rises
 
 -- where the new entries fit the memory, the entry that comes is not refused
 pub entry_comes : (p : Participant) (a : Account) (es memory : List AccountEntry) (len : ℕ) → len ≤ length memory →

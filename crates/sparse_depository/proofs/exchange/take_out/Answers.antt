@@ -1,6 +1,6 @@
 use Rattle.std.proofs.Common.{sym, refl, ◌∙◌, subst, arith}
 use Rattle.ordered_list.specs.Lists.{list_of}
-use Rattle.sparse_depository.specs.EntriesLemmas.{Absent, absent}
+use Rattle.sparse_depository.specs.EntriesLemmas.{Absent, without_none}
 use Rattle.sparse_depository.proofs.Lines.{few_removed, entry_goes}
 use Rattle.sparse_depository.proofs.exchange.take_out.Goals as goal
 
@@ -11,7 +11,7 @@ returns-in_default c =
       same = refl;
       long = refl;
       few = c.requires.few;
-      list = sym (absent c.args.who.0 (list_of l.len l.lines.now) (subst (Absent c.args.who.0) c.lines.ensures c.in_default.ensures)).1;
+      list = sym (without_none c.args.who.0 (list_of l.len l.lines.now) (subst (Absent c.args.who.0) c.lines.ensures c.in_default.ensures));
     }
 
 pub returns : goal.returns
