@@ -1,15 +1,13 @@
 -- What insert and remove leave of the list, read off the whole memory and the length.
-use Rattle.std.proofs.Common.{◌≡◌, ℕ, suc, ◌+◌, ◌-◌, ◌<◌, ◌≤◌, min, Bool, true, List, ◌∷◌, ◌++◌, length, get_or, take, drop, Some, None, Ok, sym, refl, ap, ◌∙◌, inl, inr, arith}
+use Rattle.std.proofs.Common.{◌≡◌, ℕ, suc, ◌+◌, ◌-◌, ◌<◌, ◌≤◌, min, Bool, List, ◌∷◌, ◌++◌, length, get_or, take, drop, Some, None, Ok, sym, refl, ap, ◌∙◌, inl, inr, arith}
 use Rattle.std.specs.List.{remove, slice_get}
 use Rattle.std.proofs.lemmas.List.{length-take, length-take-le, take_at, take_all, drop_all, append-nil, take-append-drop, get_or-take}
 use Rattle.std.proofs.lemmas.List.Edits.{length-remove}
 use Rattle.std.proofs.lemmas.Option.{slice_get-get_or, slice_get_past}
 use Rattle.std.proofs.lemmas.Bool.{cases_lt, lt-ltb, le-ltb, cond_below, cond_above, cond-true}
-use Rattle.ordered_list.specs.Order.{position_of, placed, in_order}
+use Rattle.ordered_list.specs.Order.{position_of, placed}
 use Rattle.ordered_list.specs.Lists.{list_of, length_of, insert_answer, insert_list, insert_memory, insert_len, remove_answer, remove_list, remove_memory, remove_len}
-use Rattle.ordered_list.proofs.Laws.{Lawful}
 use Rattle.ordered_list.proofs.Placed.{length-placed}
-use Rattle.ordered_list.proofs.Sorted.{placed_in_order, removed_in_order}
 
 -- room behind the list
 pub insert_room : {X : Type 0} (after : X → X → Bool) (len : ℕ) (memory : List X) (x : X) → len < length memory →
@@ -19,13 +17,17 @@ pub insert_room : {X : Type 0} (after : X → X → Bool) (len : ℕ) (memory : 
 insert_room after len memory x h =
     (cond_below len (length memory) _ _ h, cond_below len (length memory) _ _ h, cond_below len (length memory) _ _ h)
 
+-- a line that went in stands in front of what lies behind the list
+pub front_placed : {X : Type 0} (after : X → X → Bool) (len : ℕ) (memory : List X) (x : X) → len < length memory →
+    take (len + 1) (placed after x (take len memory) ++ drop (len + 1) memory) ≡ placed after x (take len memory)
+front_placed after len memory x h =
+    take_at (placed after x (take len memory)) (drop (len + 1) memory) (len + 1) (length-placed after x (take len memory) ∙ ap (λ n. n + 1) (length-take-le len memory (omega arith)))
+
 -- the list after insert stands in front of the memory after it
 pub list_insert : {X : Type 0} (after : X → X → Bool) (len : ℕ) (memory : List X) (x : X) →
     list_of (insert_len len memory) (insert_memory after len memory x) ≡ insert_list after len memory x
 list_insert after len memory x = elim (cases_lt len (length memory)) [
-  | inl h ↦
-      let long : length (placed after x (take len memory)) ≡ len + 1 = length-placed after x (take len memory) ∙ ap (λ n. n + 1) (length-take-le len memory (omega arith)) in
-      simp (lt-ltb len (length memory) h) (take_at (placed after x (take len memory)) (drop (len + 1) memory) (len + 1) long)
+  | inl h ↦ simp (lt-ltb len (length memory) h) (front_placed after len memory x h)
   | inr h ↦ simp (le-ltb len (length memory) h)
 ]
 
@@ -36,14 +38,6 @@ list_insert_room after len memory x h =
     let l = list_insert after len memory x in
     let n = (insert_room after len memory x h).2 in
     ap (λ k. list_of k (insert_memory after len memory x)) n ∙ l ∙ cond-true _ _ _ (lt-ltb len (length memory) h)
-
--- insert keeps the order
-pub order_insert : {X : Type 0} (after : X → X → Bool) → Lawful after → (len : ℕ) (memory : List X) (x : X) →
-    in_order after (list_of len memory) ≡ true → in_order after (insert_list after len memory x) ≡ true
-order_insert after l len memory x o = elim (cases_lt len (length memory)) [
-  | inl h ↦ simp (lt-ltb len (length memory) h) (placed_in_order after l x (take len memory) o)
-  | inr h ↦ simp (le-ltb len (length memory) h) o
-]
 
 -- a length past the memory's end is the memory's
 clamped : {X : Type 0} (len : ℕ) (memory : List X) → (take (length_of len memory) memory ≡ list_of len memory) × (drop (length_of len memory) memory ≡ drop len memory)
@@ -94,8 +88,3 @@ list_remove len memory at = elim (cases_lt at (length_of len memory)) [
       simp (lt-ltb at (length_of len memory) h) (take_at (remove (take len memory) at) _ (length_of len memory - 1) long)
   | inr h ↦ let r = remove_none len memory at h in cc (r.1, r.2, r.3)
 ]
-
--- remove keeps the order
-pub order_remove : {X : Type 0} (after : X → X → Bool) (len : ℕ) (memory : List X) (at : ℕ) →
-    in_order after (list_of len memory) ≡ true → in_order after (remove_list len memory at) ≡ true
-order_remove after len memory at o = removed_in_order after (take len memory) at o

@@ -1,7 +1,6 @@
 -- The position behind all lines that do not rank after a line.
-use Rattle.std.proofs.Common.{◌≡◌, ℕ, zero, suc, ◌+◌, ◌-◌, ◌<◌, ◌≤◌, Bool, true, false, cond, List, [], ◌∷◌, length, get_or, drop, sym, refl, ap, ◌∙◌, inl, inr, arith}
-use Rattle.std.proofs.lemmas.List.{at_drop_more}
-use Rattle.std.proofs.lemmas.Bool.{and_left, and_right, and_parts, and_cases, both_ways}
+use Rattle.std.proofs.Common.{◌≡◌, ℕ, zero, suc, ◌-◌, ◌<◌, ◌≤◌, Bool, true, false, cond, List, [], ◌∷◌, length, get_or, refl, inl, inr, arith}
+use Rattle.std.proofs.lemmas.Bool.{cases_lt, and_parts, and_cases, both_ways}
 use Rattle.ordered_list.specs.Order.{all_after, position_of, RightPosition}
 
 -- the position lies within the list, or just behind it
@@ -10,39 +9,6 @@ position_le after x [] = omega arith
 position_le after x (y ∷ ys) =
     let h = position_le after x ys in
     elim (all_after after x (y ∷ ys)) as (λ b. cond b 0 (suc (position_of after x ys)) ≤ suc (length ys)) [ true ↦ omega arith | false ↦ omega arith ]
-
--- where all rank after x, the position is the first
-pub position_first : {X : Type 0} (after : X → X → Bool) (x : X) (ys : List X) → all_after after x ys ≡ true → position_of after x ys ≡ 0
-position_first after x [] e = refl
-position_first after x (y ∷ ys) e = simp e
-
--- where one line does not rank after x, not all do
-not_all : {X : Type 0} (after : X → X → Bool) (x : X) (ys : List X) (i : ℕ) (d : X) → i < length ys → after (get_or ys i d) x ≡ false → all_after after x ys ≡ false
-not_all after x [] i d l e = absurd (omega arith)
-not_all after x (y ∷ ys) zero d l e = and_left (after y x) (all_after after x ys) e
-not_all after x (y ∷ ys) (suc i) d l e = and_right (after y x) (all_after after x ys) (not_all after x ys i d (omega arith) e)
-
--- the position is behind the last line that does not rank after x
-position_behind : {X : Type 0} (after : X → X → Bool) (x : X) (ys : List X) (i : ℕ) (d : X) → i < length ys →
-    after (get_or ys i d) x ≡ false → all_after after x (drop (suc i) ys) ≡ true → position_of after x ys ≡ suc i
-position_behind after x [] i d l e a = absurd (omega arith)
-position_behind after x (y ∷ ys) zero d l e a = simp (not_all after x (y ∷ ys) 0 d l e, position_first after x ys a)
-position_behind after x (y ∷ ys) (suc i) d l e a =
-    simp (not_all after x (y ∷ ys) (suc i) d l e, position_behind after x ys i d (omega arith) e a)
-
--- A search from the back: all from i on rank after x, and y stands just in front of i. Either y does not, and i is the position,
-pub position_found : {X : Type 0} (after : X → X → Bool) (x : X) (ys : List X) (i : ℕ) (y : X) → 0 < i → i ≤ length ys → y ≡ get_or ys (i - 1) y →
-    after y x ≡ false → all_after after x (drop i ys) ≡ true → position_of after x ys ≡ i
-position_found after x ys i y p l r f a =
-    let s : suc (i - 1) ≡ i = omega arith in
-    position_behind after x ys (i - 1) y (omega arith) (ap (λ v. after v x) (sym r) ∙ f) (ap (λ n. all_after after x (drop n ys)) s ∙ a) ∙ s
-
--- or y ranks after x too.
-pub all-further : {X : Type 0} (after : X → X → Bool) (x : X) (ys : List X) (i : ℕ) (y : X) → 0 < i → i ≤ length ys → y ≡ get_or ys (i - 1) y →
-    after y x ≡ true → all_after after x (drop i ys) ≡ true → all_after after x (drop (i - 1) ys) ≡ true
-all-further after x ys i y p l r t a =
-    let s : i - 1 + 1 ≡ i = omega arith in
-    at_drop_more (all_after after x) ys (i - 1) y (omega arith) ∙ simp (sym r, t, s, a)
 
 -- where all rank after x, each does
 all_each : {X : Type 0} (after : X → X → Bool) (x : X) (ys : List X) (k : ℕ) (d : X) → k < length ys → all_after after x ys ≡ true → after (get_or ys k d) x ≡ true
@@ -90,3 +56,17 @@ position_right after x ys = record {
   behind = rest_after after x ys;
   front = λ d p. front_not after x ys (position_of after x ys - 1) d (omega arith);
 }
+
+-- of two right positions, none lies behind the other
+not_behind : {X : Type 0} (after : X → X → Bool) (x : X) (ys : List X) (at later : ℕ) → X → RightPosition after x ys at → RightPosition after x ys later → later ≤ at
+not_behind after x ys at later d r q = elim (cases_lt at later) [
+  | inl h ↦ absurd (both_ways (after (get_or ys (later - 1) d) x) (q.front d (omega arith)) (r.behind (later - 1) d (omega arith) (omega (arith, q.within))))
+  | inr h ↦ h
+]
+
+-- so that there is no other
+pub position_only : {X : Type 0} (after : X → X → Bool) (x : X) (ys : List X) (at : ℕ) → RightPosition after x ys at → at ≡ position_of after x ys
+position_only after x [] at r = omega (arith, r.within)
+position_only after x (y ∷ ys) at r =
+    let q = position_right after x (y ∷ ys) in
+    omega (arith, not_behind after x (y ∷ ys) at (position_of after x (y ∷ ys)) y r q, not_behind after x (y ∷ ys) (position_of after x (y ∷ ys)) at y q r)

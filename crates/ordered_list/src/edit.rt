@@ -11,8 +11,8 @@ pub(crate) fn insert_into<T: Ranked + Copy>(lines: &mut [T], len: usize, line: T
     ensures answer { result ≡ position_of T.Ranked.after line (take len lines.old) }
     ensures after { lines.new ≡ placed T.Ranked.after line (take len lines.old) ++ drop (len + 1) lines.old }
 {
-    let at = position_of(&lines[0..len], &line);
-    lines[at..len + 1].rotate_right(1);
+    let at = position_of(&lines[..len], &line);
+    lines[at..=len].rotate_right(1);
     lines[at] = line;
     at
 }
@@ -33,6 +33,5 @@ pub(crate) fn remove_from<T: Copy>(lines: &mut [T], len: usize, at: usize) -> T
 pub(crate) fn first<T>(lines: &[T], len: usize) -> &[T]
     ensures { result.now ≡ take len lines.now }
 {
-    let end = len.min(lines.len());
-    &lines[0..end]
+    lines.get(..len).unwrap_or(lines)
 }

@@ -1,10 +1,7 @@
-ghost use Rattle.std.specs.Prelude.{◌≡◌};
-ghost use Rattle.ordered_list.specs.Refusals.{code_of};
-
 use units::RefusalCode;
 
 /// Why a call on an ordered list was refused.
-#[derive(Clone, Copy)]
+#[derive(Clone, Copy, Debug, PartialEq, Eq)]
 pub enum ListFault {
     /// The memory has no room for another line.
     Full,
@@ -12,12 +9,15 @@ pub enum ListFault {
     NoSuchPosition,
 }
 
-impl ListFault {
-    /// What the refusal is known by outside.
-    pub fn code(self) -> RefusalCode
-        ensures { result ≡ code_of self }
-    {
-        let number = match self {
+/// What the refusal is known by outside.
+impl From<ListFault> for RefusalCode {
+    ghost use Rattle.std.specs.Prelude.{◌≡◌};
+    ghost use Rattle.ordered_list.specs.Refusals.{code_of};
+
+    ghost from_gives = { λ fault code. code ≡ code_of fault };
+
+    fn from(fault: ListFault) -> RefusalCode {
+        let number = match fault {
             ListFault::Full => 51,
             ListFault::NoSuchPosition => 52,
         };

@@ -7,6 +7,9 @@ use crate::{ListFault, Ranked};
 
 /// An ordered list: the first `len` lines of memory that the caller lends, or all of it where `len` passes its end.
 /// A list that is in order stays in order. It is not `Drop`: `done` takes its length back, so that none is forgotten.
+///
+/// A slice and a length, and no `Vec`: the engine has no heap. Contracts name both fields, and no `Model` hides them: its value
+/// would have to hold the loan, or nobody could tell whose memory changed, and so be these two fields again.
 pub struct OrderedList<'a, T> {
     lines: &'a mut [T],
     len: usize,

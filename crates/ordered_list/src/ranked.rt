@@ -2,6 +2,7 @@ ghost use Rattle.std.specs.Prelude.{◌≡◌, Bool, true, false};
 ghost use Rattle.ordered_list.specs.Order.{rank_alike};
 
 /// Lines that have an order: of two lines one goes first or they rank alike, and both carry along a chain.
+/// Not `Ord`, where what compares as equal is equal: two lines may rank alike and be of different participants or lots.
 pub trait Ranked {
     // whether the first line ranks strictly after the second
     ghost after: { Self → Self → Bool };

@@ -1,4 +1,5 @@
 pub mod Answers
 pub mod Ranges
 pub mod Sides
+pub mod Spoken
 pub mod Worth

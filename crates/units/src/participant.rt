@@ -14,6 +14,6 @@ impl Participant {
     pub fn is_known(self) -> bool
         ensures { result ≡ is_participant self }
     {
-        Self::FIRST <= self.0 && self.0 <= Self::LAST
+        (Self::FIRST..=Self::LAST).contains(&self.0)
     }
 }

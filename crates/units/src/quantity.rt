@@ -24,7 +24,7 @@ impl Price {
     pub fn in_range(self) -> bool
         ensures { result ≡ is_price self }
     {
-        Self::LOWEST <= self.0 && self.0 <= Self::HIGHEST
+        (Self::LOWEST..=Self::HIGHEST).contains(&self.0)
     }
 
     /// What so many lots cost at this price.
@@ -46,7 +46,7 @@ impl Lots {
     pub fn in_order_range(self) -> bool
         ensures { result ≡ is_order_size self }
     {
-        Self::LEAST_ORDER <= self.0 && self.0 <= Self::LARGEST_ORDER
+        (Self::LEAST_ORDER..=Self::LARGEST_ORDER).contains(&self.0)
     }
 }
 
