@@ -8,11 +8,11 @@ use Rattle.units.specs.declared.quantity.Money.{Money as MoneyOnly}
 use Rattle.depository.specs.declared.account.Account.{Account}
 use Rattle.depository.specs.declared.amount.Amount.{Amount}
 use Rattle.depository.specs.declared.amount.Amount.TheVariants.{Lots, Money}
-use Rattle.account_store.specs.declared.change.Change.TheVariants.{Gain, Surrender}
+use Rattle.depository.specs.declared.change.Change.TheVariants.{Gain, Surrender}
 use Rattle.depository.specs.Accounts.{empty, in_all, Within, of, changed}
 use Rattle.depository.specs.Amounts.{size, held_of, most_of, has_blocked, surrendering}
 use Rattle.depository.specs.Calls.{handed_over}
-use Rattle.account_store.specs.Changes.{change_answer}
+use Rattle.depository.specs.Changes.{change_answer}
 use Rattle.depository.proofs.Totals.{room_surrendered}
 
 -- a change that keeps a figure of the account it changes keeps it for everyone

@@ -8,14 +8,14 @@ use Rattle.units.proofs.Checks.{checked_ok, ok_value}
 use Rattle.depository.specs.declared.account.Account.{Account}
 use Rattle.depository.specs.declared.amount.Amount.{Amount}
 use Rattle.depository.specs.declared.amount.Amount.TheVariants.{Lots, Money}
-use Rattle.account_store.specs.declared.change.Change.{Change}
-use Rattle.account_store.specs.declared.change.Change.TheVariants.{Block, Release, Gain, Lose, Surrender}
+use Rattle.depository.specs.declared.change.Change.{Change}
+use Rattle.depository.specs.declared.change.Change.TheVariants.{Block, Release, Gain, Lose, Surrender}
 use Rattle.depository.specs.declared.fault.DepositoryFault.{DepositoryFault}
 use Rattle.depository.specs.declared.fault.DepositoryFault.TheVariants.{NoParticipant, FreeTooSmall, BlockedTooSmall, PastTotal}
 use Rattle.depository.specs.Accounts.{Within, of, changed}
 use Rattle.depository.specs.Amounts.{size, free_of, blocked_of, held_of, most_of, has_free, has_blocked, blocking, releasing, losing, surrendering}
 use Rattle.depository.specs.Calls.{balances_answer}
-use Rattle.account_store.specs.Changes.{decided, after_answer, room_answer}
+use Rattle.depository.specs.Changes.{decided, after_answer, room_answer}
 use Rattle.depository.proofs.Totals.{HoldsNoMore, within_one, within-changed, free_gained, within_gained}
 
 blocking_holds : (x : Amount) (a : Account) → has_free x a ≡ true → HoldsNoMore (blocking x a) a
