@@ -1,12 +1,11 @@
-use Rattle.std.specs.Prelude.{Bool, true, Ok, Result, nat_le}
+use Rattle.std.specs.Prelude.{Bool, true, Ok, Result, is_ok}
 use Rattle.units.specs.Answers.{check}
 use Rattle.command.specs.declared.command.Command.{Command}
 use Rattle.command.specs.declared.command.Command.TheVariants.{PayInLots, PayInMoney, Open, Submit, Withdraw, Strike, Add, Deal, Annul, Close}
 use Rattle.command.specs.declared.fault.TapeFault.{TapeFault}
 use Rattle.command.specs.declared.fault.TapeFault.TheVariants.{NoSuchRule}
 
--- whether a rule that a command names is one of the two: 0, by time, and 1, pro rata. Only a deal names one, so all others
--- pass
+-- whether a rule that a command names is one of the two. Only a deal names one, so all others pass
 abbrev pub names_no_unknown_rule : Command → Bool
 names_no_unknown_rule (PayInLots participant lots) = true
 names_no_unknown_rule (PayInMoney participant money) = true
@@ -15,7 +14,7 @@ names_no_unknown_rule (Submit participant side limit lots) = true
 names_no_unknown_rule (Withdraw participant order) = true
 names_no_unknown_rule Strike = true
 names_no_unknown_rule (Add participant side lots) = true
-names_no_unknown_rule (Deal rule) = nat_le rule 1
+names_no_unknown_rule (Deal rule) = is_ok rule
 names_no_unknown_rule Annul = true
 names_no_unknown_rule Close = true
 

@@ -2,6 +2,7 @@
 use Rattle.std.specs.Prelude.{ℕ, ◌+◌, cond, List, [], ◌∷◌, Some, None, Option, ◌==◌, slice_index}
 use Rattle.units.specs.declared.side.Side.TheVariants.{Sell, Buy}
 use Rattle.command.specs.Operands.{as_participant, as_order_number, as_price, as_lots, as_money}
+use Rattle.command.specs.RuleNumbers.{rule_of}
 use Rattle.command.specs.declared.command.Command.{Command}
 use Rattle.command.specs.declared.command.Command.TheVariants.{PayInLots, PayInMoney, Open, Submit, Withdraw, Strike, Add, Deal, Annul, Close}
 
@@ -30,7 +31,7 @@ table =
     ∷ row 0x20 [] (λ ns. Strike)
     ∷ row 0x21 (2 ∷ 4 ∷ []) (λ ns. Add (as_participant (at ns 0)) Sell (as_lots (at ns 1)))
     ∷ row 0x22 (2 ∷ 4 ∷ []) (λ ns. Add (as_participant (at ns 0)) Buy (as_lots (at ns 1)))
-    ∷ row 0x23 (1 ∷ []) (λ ns. Deal (at ns 0))
+    ∷ row 0x23 (1 ∷ []) (λ ns. Deal (rule_of (at ns 0)))
     ∷ row 0x24 [] (λ ns. Annul)
     ∷ row 0x30 [] (λ ns. Close)
     ∷ []

@@ -2,6 +2,7 @@ ghost use Rattle.std.specs.Prelude.{◌≡◌};
 ghost use Rattle.command.specs.Rules.{checked_of};
 
 use super::fault::TapeFault;
+use super::rule::{Rule, UnknownRule};
 use market::OrderNumber;
 use units::{Lots, Money, Participant, Price, Side};
 
@@ -33,24 +34,22 @@ pub enum Command {
         side: Side,
         lots: Lots,
     },
-    /// The rule's number: 0 by time, 1 pro rata, any other is no rule's.
+    /// The rule that its number names, if one does.
     Deal {
-        rule: u8,
+        rule: Result<Rule, UnknownRule>,
     },
     Annul,
     Close,
 }
 
 impl Command {
-    pub const LAST_RULE: u8 = 1;
-
     /// The command itself, unless it is a deal by a rule that there is not.
     pub fn checked(self) -> Result<Command, TapeFault>
         ensures { result ≡ checked_of self }
     {
-        match self {
-            Command::Deal { rule } if rule > Self::LAST_RULE => Err(TapeFault::NoSuchRule),
-            _ => Ok(self),
+        if let Command::Deal { rule } = self {
+            let _ = rule?;
         }
+        Ok(self)
     }
 }

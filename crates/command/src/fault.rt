@@ -1,7 +1,8 @@
 ghost use Rattle.std.specs.Prelude.{◌≡◌};
 ghost use Rattle.command.specs.Refusals.{code_of};
-ghost use Rattle.command.specs.declared.fault.TapeFault.TheVariants.{Session as OfSession, Depository as OfDepository};
+ghost use Rattle.command.specs.declared.fault.TapeFault.TheVariants.{NoSuchRule as NoRule, Session as OfSession, Depository as OfDepository};
 
+use super::rule::UnknownRule;
 use depository::DepositoryFault;
 use market::SessionFault;
 use units::RefusalCode;
@@ -21,6 +22,7 @@ pub enum TapeFault {
     Depository(DepositoryFault),
 }
 
+// Conversions by hand: one that a macro derives says nothing of which fault it gives.
 impl From<SessionFault> for TapeFault {
     ghost from_gives = { λ fault r. r ≡ OfSession fault };
 
@@ -37,12 +39,20 @@ impl From<DepositoryFault> for TapeFault {
     }
 }
 
-impl TapeFault {
-    /// What the refusal is known by outside.
-    pub fn code(self) -> RefusalCode
-        ensures { result ≡ code_of self }
-    {
-        let number = match self {
+impl From<UnknownRule> for TapeFault {
+    ghost from_gives = { λ _ r. r ≡ NoRule };
+
+    fn from(_: UnknownRule) -> TapeFault {
+        TapeFault::NoSuchRule
+    }
+}
+
+/// What the refusal is known by outside.
+impl From<TapeFault> for RefusalCode {
+    ghost from_gives = { λ fault code. code ≡ code_of fault };
+
+    fn from(fault: TapeFault) -> RefusalCode {
+        let number = match fault {
             TapeFault::Unknown => 1,
             TapeFault::CutShort => 2,
             TapeFault::NoSuchRule => 3,

@@ -6,12 +6,11 @@ mod command;
 mod fault;
 mod operand;
 mod reading;
-mod short;
-mod six_bytes;
+mod rule;
 mod table;
-mod ten_bytes;
 
 pub use command::Command;
 pub use fault::TapeFault;
 pub use reading::read;
+pub use rule::{Rule, UnknownRule};
 pub use table::{FORMATS, width_of};

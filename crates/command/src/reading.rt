@@ -1,12 +1,14 @@
-ghost use Rattle.std.specs.Prelude.{◌≡◌};
-ghost use Rattle.command.specs.Reads.{read_one, seen};
+ghost use Rattle.std.specs.Prelude.{◌≡◌, ℕ, ◌<◌, ◌==◌, ◌||◌, cond, Ok, slice_index};
+ghost use Rattle.command.specs.Reads.{Whole, read_one, seen};
+ghost use Rattle.units.specs.declared.side.Side.TheVariants.{Sell, Buy};
 
 use super::command::Command;
 use super::fault::TapeFault;
-use super::short::{with_four_bytes, with_no_operands, with_one_byte};
-use super::six_bytes::with_six_bytes;
+use super::operand::Operand;
+use super::rule::Rule;
 use super::table::width_of;
-use super::ten_bytes::with_ten_bytes;
+use market::OrderNumber;
+use units::{Lots, Money, Participant, Price, Side};
 
 /// The command at the front of the tape, and the rest of the tape.
 /// It is asked only where a byte is left; an empty tape counts as cut short.
@@ -16,19 +18,81 @@ pub fn read(tape: &[u8]) -> Result<(Command, &[u8]), TapeFault>
     let [byte, operands @ ..] = tape else {
         return Err(TapeFault::CutShort);
     };
-    let Some(width) = width_of(*byte) else {
-        return Err(TapeFault::Unknown);
-    };
+    let width = width_of(*byte).ok_or(TapeFault::Unknown)?;
     if operands.len() < width {
         return Err(TapeFault::CutShort);
     }
-    match width {
-        0 => with_no_operands(tape),
-        1 => with_one_byte(tape),
-        4 => with_four_bytes(tape),
-        6 => with_six_bytes(tape),
-        10 => with_ten_bytes(tape),
-        // the table has no other width
-        _ => Err(TapeFault::Unknown),
+    Ok(taken_apart(tape))
+}
+
+/// Takes a whole command apart.
+fn taken_apart(tape: &[u8]) -> (Command, &[u8])
+    requires { (w : ℕ) × Whole w tape.now }
+    ensures { Ok (result.0, result.1.now) ≡ read_one tape.now }
+{
+    match tape {
+        [0x01, p1, p0, l3, l2, l1, l0, rest @ ..] => {
+            let participant = Participant::from_bytes([*p1, *p0]);
+            let lots = Lots::from_bytes([*l3, *l2, *l1, *l0]);
+            (Command::PayInLots { participant, lots }, rest)
+        }
+        [0x02, p1, p0, m7, m6, m5, m4, m3, m2, m1, m0, rest @ ..] => {
+            let participant = Participant::from_bytes([*p1, *p0]);
+            let money = Money::from_bytes([*m7, *m6, *m5, *m4, *m3, *m2, *m1, *m0]);
+            (Command::PayInMoney { participant, money }, rest)
+        }
+        [0x03, rest @ ..] => (Command::Open, rest),
+        [0x20, rest @ ..] => (Command::Strike, rest),
+        [0x23, rule, rest @ ..] => {
+            let rule = Rule::try_from(*rule);
+            (Command::Deal { rule }, rest)
+        }
+        [0x24, rest @ ..] => (Command::Annul, rest),
+        [0x30, rest @ ..] => (Command::Close, rest),
+        _ => with_order(tape),
+    }
+}
+
+/// Takes a whole command about an order apart: a submit, a withdraw or an add.
+fn with_order(tape: &[u8]) -> (Command, &[u8])
+    requires { (w : ℕ) × (1 < w) × (2 < slice_index tape.now 0) × Whole w tape.now }
+    ensures { Ok (result.0, result.1.now) ≡ read_one tape.now }
+{
+    match tape {
+        [0x10, p1, p0, c3, c2, c1, c0, l3, l2, l1, l0, rest @ ..]
+        | [0x11, p1, p0, c3, c2, c1, c0, l3, l2, l1, l0, rest @ ..] => {
+            let command = Command::Submit {
+                participant: Participant::from_bytes([*p1, *p0]),
+                side: side_of(tape[0]),
+                limit: Price::from_bytes([*c3, *c2, *c1, *c0]),
+                lots: Lots::from_bytes([*l3, *l2, *l1, *l0]),
+            };
+            (command, rest)
+        }
+        [0x12, p1, p0, o1, o0, rest @ ..] => {
+            let participant = Participant::from_bytes([*p1, *p0]);
+            let order = OrderNumber::from_bytes([*o1, *o0]);
+            (Command::Withdraw { participant, order }, rest)
+        }
+        [0x21, p1, p0, l3, l2, l1, l0, rest @ ..] | [0x22, p1, p0, l3, l2, l1, l0, rest @ ..] => {
+            let command = Command::Add {
+                participant: Participant::from_bytes([*p1, *p0]),
+                side: side_of(tape[0]),
+                lots: Lots::from_bytes([*l3, *l2, *l1, *l0]),
+            };
+            (command, rest)
+        }
+        // the table has no other command with an order
+        _ => unreachable!(),
+    }
+}
+
+/// The side that the byte of a submit or an add stands for.
+fn side_of(byte: u8) -> Side
+    ensures { result ≡ cond (byte == 16 || byte == 33) Sell Buy }
+{
+    match byte {
+        0x10 | 0x21 => Side::Sell,
+        _ => Side::Buy,
     }
 }

@@ -1,5 +1,7 @@
-ghost use Rattle.std.specs.Prelude.{◌≡◌};
+ghost use Rattle.std.specs.Prelude.{◌≡◌, ℕ, List, ◌==◌};
+ghost use Rattle.std.specs.List.{find};
 ghost use Rattle.command.specs.Table.{table, width_in};
+ghost use Rattle.command.specs.declared.table.TheConstants.{FORMATS};
 
 /// The twelve commands as they stand on the tape: the command byte, and the widths in bytes of the operands behind it.
 /// No command has more than three operands; where there are fewer the last widths are 0.
@@ -22,11 +24,16 @@ pub const FORMATS: [(u8, [u8; 3]); 12] = [
 pub fn width_of(byte: u8) -> Option<usize>
     ensures { result ≡ width_in table byte }
 {
-    for (command, operands) in FORMATS.iter() {
-        if *command == byte {
-            let [first, second, third] = *operands;
-            return Some(usize::from(first) + usize::from(second) + usize::from(third));
-        }
-    }
-    None
+    let (_, [first, second, third]) = format_of(byte)?;
+    Some(usize::from(first) + usize::from(second) + usize::from(third))
+}
+
+/// The row of a command byte.
+fn format_of(byte: u8) -> Option<(u8, [u8; 3])>
+    ensures { result ≡ find (λ (row : ℕ × List ℕ). row.0 == byte) FORMATS }
+{
+    FORMATS
+        .iter()
+        .copied()
+        .find(|(command, _)| *command == byte)
 }

@@ -1,0 +1,27 @@
+/// The rule by which a deal shares out.
+#[derive(Clone, Copy, Debug, PartialEq, Eq)]
+pub enum Rule {
+    ByTime,
+    ProRata,
+}
+
+/// A number that is no rule's.
+#[derive(Clone, Copy, Debug, PartialEq, Eq)]
+pub struct UnknownRule(pub u8);
+
+impl TryFrom<u8> for Rule {
+    ghost use Rattle.std.specs.Prelude.{◌≡◌};
+    ghost use Rattle.command.specs.RuleNumbers.{rule_of};
+
+    type Error = UnknownRule;
+
+    ghost try_from_gives = { λ number r. r ≡ rule_of number };
+
+    fn try_from(number: u8) -> Result<Rule, UnknownRule> {
+        match number {
+            0 => Ok(Rule::ByTime),
+            1 => Ok(Rule::ProRata),
+            _ => Err(UnknownRule(number)),
+        }
+    }
+}
