@@ -1,6 +1,7 @@
 -- The candidates among the walked lines are the candidates among the waiting limits.
-use Rattle.std.proofs.Common.{◌≡◌, ℕ, ◌+◌, ◌-◌, ◌^◌, ◌<◌, ◌≤◌, Bool, true, ◌&&◌, eqb, leb, List, [], ◌∷◌, ◌++◌, map, filter, sym, refl, ap, ◌∙◌, arith}
-use Rattle.std.specs.List.{AllByRecursion}
+use Rattle.std.proofs.Common.{◌≡◌, ℕ, ◌+◌, ◌-◌, ◌^◌, ◌<◌, ◌≤◌, Bool, true, ◌&&◌, eqb, leb, List, [], ◌∷◌, ◌++◌, map, filter, None, sym, refl, ap, ◌∙◌, arith}
+use Rattle.std.specs.List.{AllByRecursion, last_or}
+use Rattle.std.specs.Option.{unwrap_or}
 use Rattle.std.proofs.ByRecursion.{All-weaker, all_kept_by}
 use Rattle.std.proofs.lemmas.Bool.{leb-true, le-leb, cond_both}
 use Rattle.market.specs.declared.order.Resting.{Resting}
@@ -9,7 +10,7 @@ use Rattle.market.specs.Prices.{volume, imbalance, waiting_limits}
 use Rattle.market.specs.CutOff.{highest, lowest, with_most, with_least, candidates}
 use Rattle.market.specs.Queues.{Queues}
 use Rattle.pricing.specs.declared.line.Line.{Line}
-use Rattle.pricing.specs.Candidates.{volume_of, imbalance_of, least_of, last_or, least_imbalance, has_figures, candidate_lines}
+use Rattle.pricing.specs.Candidates.{volume_of, imbalance_of, least_of, least_imbalance, has_figures, candidate_lines}
 use Rattle.pricing.specs.Lines.{price_of, line_at, lines_at}
 use Rattle.pricing.proofs.Figures.{highest_above, highest_le, least_below, least_ge, lowest-last}
 use Rattle.pricing.proofs.Keeping.{kept_both, kept_map, map-map, kept_best, all-every}
@@ -83,10 +84,10 @@ downward_kept test (p ∷ ps) d =
 
 -- what the code finds of the walked lines are the ends of the candidates
 pub candidate_ends : (sells buys : List Resting) (lines : List Line) → Queues sells buys → lines ≡ lines_at sells buys →
-    (last_or 0 (map price_of (candidate_lines lines)) ≡ lowest (candidates sells buys)) × (highest (map price_of (candidate_lines lines)) ≡ highest (candidates sells buys))
+    (unwrap_or (last_or None (map price_of (candidate_lines lines))) 0 ≡ lowest (candidates sells buys)) × (highest (map price_of (candidate_lines lines)) ≡ highest (candidates sells buys))
 candidate_ends sells buys lines q e =
     let ps = waiting_limits sells buys in
     let c = ap (λ ls. map price_of (candidate_lines ls)) e ∙ candidate_prices sells buys ps (all_any (λ p. imbalance sells buys p ≤ 2 ^ 64 - 1) (imbalance-fits sells buys q) ps) in
     let d = downward_kept (λ p. every (λ r. leb (imbalance sells buys p) (imbalance sells buys r)) (with_most (volume sells buys) ps)) (with_most (volume sells buys) ps)
     (downward_kept (λ p. every (λ r. leb (volume sells buys r) (volume sells buys p)) ps) ps (limits_downward (sells ++ buys))) in
-    (ap (last_or 0) c ∙ sym (lowest-last (candidates sells buys) d), ap highest c)
+    (ap (λ ns. unwrap_or (last_or None ns) 0) c ∙ sym (lowest-last (candidates sells buys) d), ap highest c)

@@ -1,7 +1,9 @@
 -- Whether limits of two queues meet: the first orders decide it.
 use Rattle.std.proofs.Common.{◌≡◌, ℕ, ◌<◌, ◌≤◌, Bool, false, leb, ◌⊎◌, List, [], ◌∷◌, length, get_or, sym, refl, ◌∙◌, inl, inr, arith}
 use Rattle.std.specs.List.{AllByRecursion}
+use Rattle.std.specs.Ordering.{is_le, nat_cmp}
 use Rattle.std.proofs.ByRecursion.{All-weaker}
+use Rattle.std.proofs.lemmas.Bool.Decides.{nat_tests}
 use Rattle.std.proofs.lemmas.Bool.{cases_Bool, or_left, or_from, leb-false, lt-leb}
 use Rattle.units.specs.declared.side.Side.TheVariants.{Sell, Buy}
 use Rattle.market.specs.declared.order.Resting.{Resting}
@@ -22,17 +24,21 @@ none_under s b ss bs l h k =
     (λ x u. some_none (λ y. leb (limit_of x) (limit_of y)) bs (All-weaker (λ y. limit_of y ≤ b) (λ y. leb (limit_of x) (limit_of y) ≡ false) (λ y v. lt-leb (limit_of x) (limit_of y) (omega arith)) bs k))
     ss h)
 
+-- as the code compares limits
+le_test : (a b : ℕ) → is_le (nat_cmp a b) ≡ leb a b
+le_test a b = grind (arith, nat_tests)
+
 -- both queues have an order
 pub crosses_first : (sells buys : List Resting) → 0 < length sells → 0 < length buys → Queues sells buys →
-    leb (limit_of (get_or sells 0 nothing)) (limit_of (get_or buys 0 nothing)) ≡ crosses sells buys
+    is_le (nat_cmp (limit_of (get_or sells 0 nothing)) (limit_of (get_or buys 0 nothing))) ≡ crosses sells buys
 crosses_first [] buys l m q = absurd (omega arith)
 crosses_first (s ∷ ss) [] l m q = absurd (omega arith)
 crosses_first (s ∷ ss) (b ∷ bs) l m q =
     let u = queue_sorted Sell (s ∷ ss) q.of_sells in
     let v = queue_sorted Buy (b ∷ bs) q.of_buys in
     elim (cases_Bool (leb (limit_of s) (limit_of b))) [
-      | inl e ↦ e ∙ sym (or_left (some (λ y. leb (limit_of s) (limit_of y)) (b ∷ bs)) (crosses ss (b ∷ bs)) (or_left (leb (limit_of s) (limit_of b)) (some (λ y. leb (limit_of s) (limit_of y)) bs) e))
-      | inr e ↦ e ∙ sym (none_under (limit_of s) (limit_of b) (s ∷ ss) (b ∷ bs) (leb-false (limit_of s) (limit_of b) e) (omega arith, u.0) (omega arith, v.0))
+      | inl e ↦ le_test (limit_of s) (limit_of b) ∙ e ∙ sym (or_left (some (λ y. leb (limit_of s) (limit_of y)) (b ∷ bs)) (crosses ss (b ∷ bs)) (or_left (leb (limit_of s) (limit_of b)) (some (λ y. leb (limit_of s) (limit_of y)) bs) e))
+      | inr e ↦ le_test (limit_of s) (limit_of b) ∙ e ∙ sym (none_under (limit_of s) (limit_of b) (s ∷ ss) (b ∷ bs) (leb-false (limit_of s) (limit_of b) e) (omega arith, u.0) (omega arith, v.0))
     ]
 
 -- one has none

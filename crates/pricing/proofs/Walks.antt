@@ -1,8 +1,9 @@
 -- The walk price downward over both queues: what it has written, and what is left of it.
-use Rattle.std.proofs.Common.{◌≡◌, ℕ, zero, suc, ◌+◌, ◌-◌, ◌*◌, ◌<◌, ◌≤◌, true, false, cond, eqb, leb, ◌⊎◌, List, [], ◌∷◌, ◌++◌, map, reverse, take, drop, Some, None, sym, refl, ap, ◌∙◌, subst, inl, inr, append_assoc, arith}
+use Rattle.std.proofs.Common.{◌≡◌, ℕ, zero, suc, ◌+◌, ◌-◌, ◌*◌, ◌<◌, ◌≤◌, true, false, cond, eqb, leb, ◌⊎◌, List, [], ◌∷◌, ◌++◌, map, reverse, length, take, drop, Some, None, sym, refl, ap, ◌∙◌, subst, inl, inr, append_assoc, arith}
 use Rattle.std.specs.List.{AllByRecursion}
 use Rattle.std.proofs.ByRecursion.{All-weaker, All-append, All-drop}
-use Rattle.std.proofs.lemmas.List.{take-append-drop, append-nil}
+use Rattle.std.proofs.lemmas.List.{take-append-drop, append-nil, length-append, length-drop, length-reverse}
+use Rattle.std.proofs.lemmas.List.Sums.{prefix_len-le-length}
 use Rattle.std.proofs.lemmas.Bool.{eqb-true, le-leb, lt-leb}
 use Rattle.units.specs.declared.quantity.Price.{Price}
 use Rattle.units.specs.declared.side.Side.TheVariants.{Sell, Buy}
@@ -20,10 +21,11 @@ use Rattle.pricing.proofs.Reversed.{total-reverse, sorted-reverse}
 use Rattle.pricing.proofs.Fronts.{front_at, front_lots_lem, front_le, rest_beyond}
 use Rattle.pricing.proofs.Members.{some_gives, some-append_cases, some-append-left, some-append_right, some-reverse}
 use Rattle.pricing.proofs.Limits.{has_limit, limits_same, limits_top}
-use Rattle.pricing.proofs.Tops.{next_top, next_has, next_none}
+use Rattle.pricing.proofs.Tops.{next_top, next_has, next_none, next_some}
 
 -- os and bs are left of the two queues, price downward, s lots of os and d lots of bids passed: the lines so far with those at
--- the limits left are all lines, and at a limit left what is passed adds d to the demand and nothing to the supply
+-- the limits left are all lines, and at a limit left what is passed adds d to the demand and nothing to the supply;
+-- and there is room for a line for each order left
 pub record Walked (sells buys os bs : List Resting) (lines : List Line) (s d : ℕ) : Type 0 where
   pub offers_down : Sorted Buy os
   pub bids_down : Sorted Buy bs
@@ -33,6 +35,7 @@ pub record Walked (sells buys os bs : List Resting) (lines : List Line) (s d : �
   pub asked : AllByRecursion (λ e. demand buys (limit_of e) ≡ d + demand bs (limit_of e)) (os ++ bs)
   pub few : s ≤ lots_in sells
   pub fewer : d + lots_in bs ≤ lots_in buys
+  pub room : length lines + length os + length bs ≤ 1024
 
 -- what holds at each order's limit holds at a limit that one has
 at_limit : (F : ℕ → Type 0) (es : List Resting) (p : ℕ) → AllByRecursion (λ e. F (limit_of e)) es → has_limit p es ≡ true → F p
@@ -91,6 +94,7 @@ walk_starts sells buys os s e q h = record {
   asked = all_any _ (λ x. omega arith) (os ++ buys);
   few = omega (arith, h, ap lots_in e, total-reverse lots_of sells);
   fewer = omega arith;
+  room = omega (arith, ap length e, length-reverse sells, q.of_sells.short, q.of_buys.short);
 }
 
 -- it ends with none left
@@ -172,6 +176,7 @@ walk_next sells buys os bs lines s d price w n =
     let lb = level_total lots_of p bs in
     let fo = front_lots_lem p os in
     let fb = front_lots_lem p bs in
+    let lengths = length-append lines (line_at sells buys p ∷ []) in
     record {
       offers_down = sorted-drop (front_orders p os) os w.offers_down;
       bids_down = sorted-drop (front_orders p bs) bs w.bids_down;
@@ -183,6 +188,16 @@ walk_next sells buys os bs lines s d price w n =
           (λ x l e. let k = demand_below p (limit_of x) bs (omega arith) in omega (arith, k, e)) w.asked;
       few = omega (arith, w.few);
       fewer = omega (arith, lb, fb, w.fewer);
+      room = omega (
+        arith,
+        next_some os bs price n,
+        lengths,
+        prefix_len-le-length (λ e. eqb (limit_of e) p) os,
+        prefix_len-le-length (λ e. eqb (limit_of e) p) bs,
+        length-drop (front_orders p os) os,
+        length-drop (front_orders p bs) bs,
+        w.room,
+      );
     }
 
 -- nothing that the walk counts is more than the queues have
