@@ -85,10 +85,9 @@ rising_without low p [] h = refl
 rising_without low p (e ∷ es) h =
     let r = rising_head low e es h in
     let more = rising_without (number e + 1) p es r.2 in
-    let P : List AccountEntry → Type 0 = λ xs. rising low xs ≡ true in
     elim (cases_Bool (number e == p)) [
-      | inl t ↦ subst P (sym (cond-true _ _ _ t)) (rising_lower (number e + 1) low (without p es) (omega arith) more)
-      | inr f ↦ subst P (sym (cond-false _ _ _ f)) (rising_from low e (without p es) r.0 r.1 more)
+      | inl t ↦ simp t (rising_lower (number e + 1) low (without p es) (omega arith) more)
+      | inr f ↦ simp f (rising_from low e (without p es) r.0 r.1 more)
     ]
 
 pub hold_without : (p : ℕ) (es : List AccountEntry) → all_hold es ≡ true → all_hold (without p es) ≡ true
@@ -96,31 +95,28 @@ hold_without p [] h = refl
 hold_without p (e ∷ es) h =
     let a = and_parts _ _ h in
     let more = hold_without p es a.1 in
-    let P : List AccountEntry → Type 0 = λ xs. all_hold xs ≡ true in
     elim (cases_Bool (number e == p)) [
-      | inl t ↦ subst P (sym (cond-true _ _ _ t)) more
-      | inr f ↦ subst P (sym (cond-false _ _ _ f)) (and_from _ _ a.0 more)
+      | inl t ↦ simp t more
+      | inr f ↦ simp f (and_from _ _ a.0 more)
     ]
 
 look_without_same : (p : ℕ) (es : List AccountEntry) → look (without p es) p ≡ empty
 look_without_same p [] = refl
 look_without_same p (e ∷ es) =
-    let P : List AccountEntry → Type 0 = λ xs. look xs p ≡ empty in
     elim (cases_Bool (number e == p)) [
-      | inl t ↦ subst P (sym (cond-true _ _ _ t)) (look_without_same p es)
-      | inr f ↦ subst P (sym (cond-false _ _ _ f)) (cond-false _ _ _ f ∙ look_without_same p es)
+      | inl t ↦ simp t (look_without_same p es)
+      | inr f ↦ simp f (look_without_same p es)
     ]
 
 look_without_other : (p q : ℕ) (es : List AccountEntry) → (q ≢ p) → look (without p es) q ≡ look es q
 look_without_other p q [] n = refl
 look_without_other p q (e ∷ es) n =
-    let P : List AccountEntry → Type 0 = λ xs. look xs q ≡ cond (number e == q) e.account (look es q) in
     let more = look_without_other p q es n in
     elim (cases_Bool (number e == p)) [
       | inl t ↦
           let same = eqb-true (number e) p t in
-          subst P (sym (cond-true _ _ _ t)) (more ∙ sym (cond-false _ _ _ (ne_eqb (number e) q (λ r. n (sym r ∙ same)))))
-      | inr f ↦ subst P (sym (cond-false _ _ _ f)) (ap (λ a. cond (number e == q) e.account a) more)
+          simp t (more ∙ sym (cond-false _ _ _ (ne_eqb (number e) q (λ r. n (sym r ∙ same)))))
+      | inr f ↦ simp f (ap (λ a. cond (number e == q) e.account a) more)
     ]
 
 absent_cons : (p : ℕ) (e : AccountEntry) (es : List AccountEntry) → (number e ≢ p) → Absent p es → Absent p (e ∷ es)
@@ -131,8 +127,8 @@ without_absent : (p : ℕ) (es : List AccountEntry) → Absent p (without p es)
 without_absent p [] = λ k l e. omega arith
 without_absent p (a ∷ es) =
     elim (cases_Bool (number a == p)) [
-      | inl t ↦ subst (Absent p) (sym (cond-true _ _ _ t)) (without_absent p es)
-      | inr f ↦ subst (Absent p) (sym (cond-false _ _ _ f)) (absent_cons p a (without p es) (eqb-false (number a) p f) (without_absent p es))
+      | inl t ↦ simp t (without_absent p es)
+      | inr f ↦ simp f (absent_cons p a (without p es) (eqb-false (number a) p f) (without_absent p es))
     ]
 
 -- every entry of a list that rises from above x comes after x
