@@ -1,5 +1,5 @@
-use Rattle.account_store.proofs.Decisions.{decides}
-use Rattle.account_store.proofs.decision.fitting.Goals as goal
+use Rattle.depository.proofs.Decisions.{decides}
+use Rattle.depository.proofs.decision.fitting.Goals as goal
 
 pub returns : goal.returns
 returns g c =

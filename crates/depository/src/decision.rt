@@ -2,11 +2,14 @@ ghost use Rattle.std.specs.Prelude.{◌≡◌, true, IfOk, Ok, OnOk};
 ghost use Rattle.units.specs.Ranges.{is_participant};
 ghost use Rattle.depository.specs.Accounts.{changed, Within};
 ghost use Rattle.depository.specs.Calls.{balances_answer};
-ghost use Rattle.account_store.specs.Changes.{room_answer, decided};
+ghost use Rattle.depository.specs.Changes.{room_answer, decided};
 
+use super::account::Account;
+use super::book::AccountBook;
 use super::change::Change;
+use super::fault::DepositoryFault;
 use super::figures::after;
-use depository::{Account, AccountBook, DepositoryFault, held_in_all};
+use super::held::held_in_all;
 use units::Participant;
 
 /// What a change makes of the participant's account, or the refusal: all that a store has to ask before it writes.

@@ -4,8 +4,8 @@ use Rattle.units.specs.Answers.{check, if_ok, given}
 use Rattle.units.specs.Ranges.{is_participant}
 use Rattle.units.specs.declared.participant.Participant.{Participant}
 use Rattle.depository.specs.declared.account.Account.{Account}
-use Rattle.account_store.specs.declared.change.Change.{Change}
-use Rattle.account_store.specs.declared.change.Change.TheVariants.{Block, Release, Gain, Lose, Surrender}
+use Rattle.depository.specs.declared.change.Change.{Change}
+use Rattle.depository.specs.declared.change.Change.TheVariants.{Block, Release, Gain, Lose, Surrender}
 use Rattle.depository.specs.declared.fault.DepositoryFault.{DepositoryFault}
 use Rattle.depository.specs.declared.fault.DepositoryFault.TheVariants.{NoParticipant, FreeTooSmall, BlockedTooSmall, PastTotal}
 use Rattle.depository.specs.Accounts.{in_all, of, changed}

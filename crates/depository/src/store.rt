@@ -1,8 +1,9 @@
 ghost use Rattle.std.specs.Prelude.{◌≡◌};
-ghost use Rattle.account_store.specs.Changes.{change_answer, change_after};
+ghost use Rattle.depository.specs.Changes.{change_answer, change_after};
 
+use super::book::AccountBook;
 use super::change::Change;
-use depository::{AccountBook, DepositoryFault};
+use super::fault::DepositoryFault;
 use units::Participant;
 
 /// A book that can be written, one account at a time. All that a depository does is made of such changes.

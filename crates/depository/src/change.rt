@@ -1,7 +1,7 @@
-use depository::Amount;
+use super::amount::Amount;
 
 /// What can be done to one account.
-#[derive(Clone, Copy)]
+#[derive(Clone, Copy, PartialEq, Eq)]
 pub enum Change {
     /// From free to blocked.
     Block(Amount),
