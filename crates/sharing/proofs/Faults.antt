@@ -1,21 +1,15 @@
 -- Which fault there is in lines and a total, and where there is none.
-use Rattle.std.proofs.Common.{◌≡◌, ℕ, zero, suc, ◌*◌, ◌<◌, ◌≤◌, Bool, true, false, cond, ltb, List, [], ◌∷◌, length, get_or, take, Some, None, Ok, Err, sum_by, sum, Option, sym, refl, ap, ◌∙◌, arith}
+use Rattle.std.proofs.Common.{◌≡◌, ℕ, ◌*◌, ◌≤◌, Bool, true, false, cond, ltb, List, [], ◌∷◌, length, Some, None, Ok, Err, sum, Option, sym, refl, ap, arith}
 use Rattle.std.specs.List.{AllByRecursion}
-use Rattle.std.proofs.lemmas.List.{take_all}
-use Rattle.std.proofs.lemmas.List.Sums.{sum-map}
-use Rattle.std.proofs.ByRecursion.{sum_by_le, All-map}
-use Rattle.std.proofs.lemmas.Bool.{lt-ltb, le-ltb, ltb-false, or_left, or_right, or_from, or_parts}
+use Rattle.std.proofs.ByRecursion.{sum_by_le}
+use Rattle.std.proofs.lemmas.Bool.{le-ltb, ltb-false, or_from, or_parts}
 use Rattle.units.specs.declared.quantity.Lots.{Lots}
 use Rattle.sharing.specs.declared.shares.Share.{Share}
 use Rattle.sharing.specs.declared.fault.SharingFault.{SharingFault}
 use Rattle.sharing.specs.declared.fault.SharingFault.TheVariants.{TooManyLines, LineTooLarge, TotalTooLarge}
-use Rattle.sharing.proofs.Lines.{Small}
 use Rattle.sharing.specs.Shares.{lots_of, most_lines, largest_line, Accepted, some_over, fault_in, or_fault, sum_or_fault, filled, unless_fault, lines_after}
 
--- an answer where there is a fault, and where there is none
-pub refused : {A : Type 0} (o : Option SharingFault) (f : SharingFault) (x : A) → o ≡ Some f → Err f ≡ or_fault o x
-refused o f x e = sym (ap (λ p. or_fault p x) e)
-
+-- an answer where there is no fault
 pub answered : {A : Type 0} (o : Option SharingFault) (x : A) → o ≡ None → Ok x ≡ or_fault o x
 answered o x e = sym (ap (λ p. or_fault p x) e)
 
@@ -38,35 +32,6 @@ all_small : (lots : List ℕ) → some_over lots ≡ false → AllByRecursion (�
 all_small [] e = tt
 all_small (x ∷ xs) e =
     let p = or_parts (ltb largest_line x) (some_over xs) e in (ltb-false largest_line x p.0, all_small xs p.1)
-
--- some line is over where the one at i is
-over_at :
-    (lines : List Share) (i : ℕ) (d : Share) → i < length lines → largest_line < (get_or lines i d).lots.0 →
-    some_over (lots_of lines) ≡ true
-over_at [] i d l h = absurd (omega arith)
-over_at (x ∷ xs) zero d l h = or_left (ltb largest_line x.lots.0) (some_over (lots_of xs)) (lt-ltb largest_line x.lots.0 h)
-over_at (x ∷ xs) (suc i) d l h =
-    or_right (ltb largest_line x.lots.0) (some_over (lots_of xs)) (over_at xs i d (omega arith) h)
-
-pub fault_many : (lots : List ℕ) (n : ℕ) → most_lines < length lots → fault_in lots n ≡ Some TooManyLines
-fault_many lots n h = let t = lt-ltb most_lines (length lots) h in simp t
-
-pub fault_large :
-    (lines : List Share) (n i : ℕ) (d : Share) → length (lots_of lines) ≤ most_lines → i < length lines →
-    largest_line < (get_or lines i d).lots.0 → fault_in (lots_of lines) n ≡ Some LineTooLarge
-fault_large lines n i d h l o =
-    let t = le-ltb most_lines (length (lots_of lines)) h in
-    let u = over_at lines i d l o in
-    simp (t, u)
-
-pub fault_total :
-    (lots : List ℕ) (n : ℕ) → length lots ≤ most_lines → AllByRecursion (λ x. x ≤ largest_line) lots → sum lots < n →
-    fault_in lots n ≡ Some TotalTooLarge
-fault_total lots n h a l =
-    let t = le-ltb most_lines (length lots) h in
-    let o = none_over lots a in
-    let u = lt-ltb (sum lots) n l in
-    simp (t, o, u)
 
 -- what can be shared out has no fault
 pub no_fault : (lots : List ℕ) (n : ℕ) → Accepted lots n → fault_in lots n ≡ None
@@ -106,17 +71,10 @@ pub written :
     lines_after rule lines n ≡ filled lines (rule (lots_of lines) n)
 written rule lines n e = ap (λ o. unless_fault o lines (filled lines (rule (lots_of lines) n))) e
 
--- what a pass over the lines has found when it is through
-pub seen_all :
-    (lines : List Share) (i s : ℕ) → length lines ≤ i → s ≡ sum_by (λ line. line.lots.0) (take i lines) →
-    AllByRecursion Small (take i lines) →
-    (s ≡ sum (lots_of lines)) × AllByRecursion (λ x. x ≤ largest_line) (lots_of lines)
-seen_all lines i s h e a =
-    let t = take_all i lines h in (
-      e ∙ ap (λ xs. sum_by (λ line. line.lots.0) xs) t ∙ sym (sum-map (λ line. line.lots.0) lines),
-      All-map (λ x. x ≤ largest_line) (λ line. line.lots.0) lines (rw t at a),
-    )
+-- the sum of lots that pass the first two checks is at most the largest line times the most lines
+pub sum-small : (lots : List ℕ) → length lots ≤ most_lines → some_over lots ≡ false → sum lots ≤ most_lines * largest_line
+sum-small lots h e = omega (arith, h, sum_by_le (λ x. x) largest_line lots (all_small lots e))
 
--- a total that can be shared out is at most the largest line times the most lines
+-- and so is a total that can be shared out
 pub total-small : (lots : List ℕ) (n : ℕ) → Accepted lots n → n ≤ most_lines * largest_line
-total-small lots n a = omega (arith, a.few, a.reached, sum_by_le (λ x. x) largest_line lots a.small)
+total-small lots n a = omega (arith, a.reached, sum-small lots a.few (none_over lots a.small))

@@ -1,6 +1,6 @@
 -- Lines, and the shares that are written on them.
-use Rattle.std.proofs.Common.{◌≡◌, ℕ, ◌≤◌, List, [], ◌∷◌, length, refl, ap, arith}
-use Rattle.std.specs.List.{AllByRecursion}
+use Rattle.std.proofs.Common.{◌≡◌, ℕ, ◌+◌, ◌<◌, ◌≤◌, List, [], ◌∷◌, ◌++◌, map, length, get_or, take, drop, refl, sym, ap, ◌∙◌, arith}
+use Rattle.std.proofs.lemmas.List.{length-map, length-take, get_or-append-add, get_or-drop}
 use Rattle.sharing.specs.declared.shares.Share.{Share}
 use Rattle.sharing.specs.Shares.{lots_of, shares_of, largest_line, filled}
 
@@ -34,8 +34,8 @@ filled-filled (x ∷ xs) (y ∷ ys) [] e = absurd (omega arith)
 filled-filled (x ∷ xs) (y ∷ ys) (z ∷ zs) e =
     ap (λ ws. record { lots = x.lots; share = record { 0 = z } } ∷ ws) (filled-filled xs ys zs (omega arith))
 
--- which each is where no lots are too large
-pub lines_small :
-    (lines : List Share) → AllByRecursion (λ x. x ≤ largest_line) (lots_of lines) → AllByRecursion Small lines
-lines_small [] a = tt
-lines_small (x ∷ xs) a = (a.0, lines_small xs a.1)
+-- lines that a pass has yet to reach are as they were
+pub ahead : {X : Type 0} (f : X → X) (xs ys : List X) (i : ℕ) (d : X) → i < length xs → ys ≡ map f (take i xs) ++ drop i xs → get_or ys i d ≡ get_or xs i d
+ahead f xs ys i d lt h =
+    let n : length (map f (take i xs)) + 0 ≡ i = omega (arith, length-map (take i xs) f, length-take i xs) in
+    ap (λ zs. get_or zs i d) h ∙ ap (λ k. get_or (map f (take i xs) ++ drop i xs) k d) (sym n) ∙ get_or-append-add (map f (take i xs)) (drop i xs) 0 d ∙ get_or-drop i xs 0 d ∙ ap (λ k. get_or xs k d) (omega arith)

@@ -1,6 +1,6 @@
 -- What every sharing rule is asked, answers and writes, whatever shares it gives.
-use Rattle.std.specs.Prelude.{ℕ, ◌≤◌, Bool, false, cond, ◌||◌, List, [], ◌∷◌, map, length, Some, None, Ok, Err, sum, Option, Result, nat_lt}
-use Rattle.std.specs.List.{AllByRecursion}
+use Rattle.std.specs.Prelude.{ℕ, ◌≤◌, Bool, cond, List, [], ◌∷◌, map, length, Some, None, Ok, Err, sum, Option, Result, nat_lt}
+use Rattle.std.specs.List.{AllByRecursion, list_any}
 use Rattle.units.specs.declared.quantity.Lots.{Lots}
 use Rattle.sharing.specs.declared.shares.Share.{Share}
 use Rattle.sharing.specs.declared.fault.SharingFault.{SharingFault}
@@ -29,8 +29,7 @@ pub record Accepted (lots : List ℕ) (total : ℕ) : Type 0 where
 
 -- whether some line is too large
 abbrev pub some_over : List ℕ → Bool
-some_over [] = false
-some_over (x ∷ xs) = nat_lt largest_line x || some_over xs
+some_over lots = list_any (nat_lt largest_line) lots
 
 -- why nothing is shared out, if so: the first of the three faults that there is
 abbrev pub fault_in : List ℕ → ℕ → Option SharingFault

@@ -8,6 +8,7 @@ use super::check::checked_sum;
 use super::fault::SharingFault;
 use super::rule::SharingRule;
 use super::shares::Share;
+use super::take::take;
 use units::Lots;
 
 /// Earlier lines first: each gets the lesser of its lots and what the lines before it left of the total.
@@ -30,13 +31,13 @@ impl SharingRule for ByTime {
     }
 }
 
+// Not one function with pro rata's `hand_out`: that adds to the shares and this overwrites them, so that it would need a
+// pass of its own, as long as this one, to clear them first.
 fn fill_by_time(lines: &mut [Share], total: Lots)
     ensures { lines.new ≡ filled lines.old (by_time (lots_of lines.old) total.0) }
 {
-    let mut left = total.0;
+    let mut left = total;
     for line in lines.iter_mut() {
-        let part = line.lots.0.min(left);
-        line.share = Lots(part);
-        left -= part;
+        line.share = take(&mut left, line.lots);
     }
 }

@@ -1,5 +1,5 @@
-ghost use Rattle.std.specs.Prelude.{◌≡◌, length, nat_lt};
-ghost use Rattle.sharing.specs.Shares.{lots_of, most_lines, largest_line, sum_or_fault};
+ghost use Rattle.std.specs.Prelude.{◌≡◌, ◌^◌, ◌<◌, sum};
+ghost use Rattle.sharing.specs.Shares.{lots_of, some_over, sum_or_fault};
 
 use super::fault::SharingFault;
 use super::shares::Share;
@@ -15,36 +15,31 @@ pub const LARGEST_LINE: u64 = 1_000_000;
 pub fn checked_sum(lines: &[Share], total: Lots) -> Result<Lots, SharingFault>
     ensures { result ≡ sum_or_fault (lots_of lines.now) total.0 }
 {
-    if too_many(lines) {
+    if lines.len() > MOST_LINES {
         return Err(SharingFault::TooManyLines);
     }
-    let mut sum = 0;
-    for line in lines {
-        if too_large(*line) {
-            return Err(SharingFault::LineTooLarge);
-        }
-        sum += line.lots.0;
+    if some_too_large(lines) {
+        return Err(SharingFault::LineTooLarge);
     }
-    if above(total, sum) {
+    let sum = sum_of_lots(lines);
+    if total > sum {
         return Err(SharingFault::TotalTooLarge);
     }
-    Ok(Lots(sum))
+    Ok(sum)
 }
 
-fn too_many(lines: &[Share]) -> bool
-    ensures { result ≡ nat_lt most_lines (length lines.now) }
+fn some_too_large(lines: &[Share]) -> bool
+    ensures { result ≡ some_over (lots_of lines.now) }
 {
-    lines.len() > MOST_LINES
+    lines
+        .iter()
+        .map(|line| line.lots.0)
+        .any(|lots| lots > LARGEST_LINE)
 }
 
-fn too_large(line: Share) -> bool
-    ensures { result ≡ nat_lt largest_line line.lots.0 }
+fn sum_of_lots(lines: &[Share]) -> Lots
+    requires { sum (lots_of lines.now) < 2 ^ 64 }
+    ensures { result.0 ≡ sum (lots_of lines.now) }
 {
-    line.lots.0 > LARGEST_LINE
-}
-
-fn above(total: Lots, sum: u64) -> bool
-    ensures { result ≡ nat_lt sum total.0 }
-{
-    total.0 > sum
+    Lots(lines.iter().map(|line| line.lots.0).sum())
 }

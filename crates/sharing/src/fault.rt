@@ -1,10 +1,7 @@
-ghost use Rattle.std.specs.Prelude.{◌≡◌};
-ghost use Rattle.sharing.specs.Refusals.{code_of};
-
 use units::RefusalCode;
 
 /// Why nothing is shared out.
-#[derive(Clone, Copy)]
+#[derive(Clone, Copy, Debug, PartialEq, Eq)]
 pub enum SharingFault {
     /// There are over 512 lines.
     TooManyLines,
@@ -14,12 +11,15 @@ pub enum SharingFault {
     TotalTooLarge,
 }
 
-impl SharingFault {
-    /// What this refusal is known by outside.
-    pub fn code(self) -> RefusalCode
-        ensures { result ≡ code_of self }
-    {
-        let number = match self {
+/// What the refusal is known by outside.
+impl From<SharingFault> for RefusalCode {
+    ghost use Rattle.std.specs.Prelude.{◌≡◌};
+    ghost use Rattle.sharing.specs.Refusals.{code_of};
+
+    ghost from_gives = { λ fault code. code ≡ code_of fault };
+
+    fn from(fault: SharingFault) -> RefusalCode {
+        let number = match fault {
             SharingFault::TooManyLines => 41,
             SharingFault::LineTooLarge => 42,
             SharingFault::TotalTooLarge => 43,

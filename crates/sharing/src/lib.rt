@@ -8,6 +8,7 @@ mod fault;
 mod pro_rata;
 mod rule;
 mod shares;
+mod take;
 mod worked;
 
 pub use by_time::ByTime;

@@ -8,6 +8,7 @@ use super::check::checked_sum;
 use super::fault::SharingFault;
 use super::rule::SharingRule;
 use super::shares::Share;
+use super::take::take;
 use units::Lots;
 
 /// By size: each line gets its lots times the total over the sum of lots, rounded down. What is left then goes out one lot
@@ -26,55 +27,61 @@ impl SharingRule for ProRata {
 
     fn share(&self, lines: &mut [Share], total: Lots) -> Result<(), SharingFault> {
         let offered = checked_sum(lines, total)?;
-        let given = write_first_shares(lines, total, offered);
+        write_first_shares(lines, total, offered);
+        let given = sum_of_shares(lines);
         hand_out(lines, Lots(total.0 - given.0));
         Ok(())
     }
 }
 
-/// Writes each line's first share, and answers their sum.
-fn write_first_shares(lines: &mut [Share], total: Lots, offered: Lots) -> Lots
+/// Writes each line's first share.
+fn write_first_shares(lines: &mut [Share], total: Lots, offered: Lots)
     requires accepted { Accepted (lots_of lines.old) total.0 }
     requires all { offered.0 ≡ sum (lots_of lines.old) }
-    ensures answer { result.0 ≡ sum (first_shares (lots_of lines.old) total.0) }
-    ensures after { lines.new ≡ filled lines.old (first_shares (lots_of lines.old) total.0) }
+    ensures { lines.new ≡ filled lines.old (first_shares (lots_of lines.old) total.0) }
 {
-    let mut given = 0;
     for line in lines.iter_mut() {
-        let part = first_share(line.lots, total, offered);
-        line.share = part;
-        given += part.0;
+        line.share = first_share(line.lots, total, offered);
     }
-    Lots(given)
 }
 
 fn first_share(lots: Lots, total: Lots, offered: Lots) -> Lots
     requires { lots.0 * total.0 < 2 ^ 64 }
     ensures { result.0 ≡ first_share total.0 offered.0 lots.0 }
 {
-    if offered.0 == 0 {
+    if offered == Lots(0) {
         Lots(0)
     } else {
         Lots(lots.0 * total.0 / offered.0)
     }
 }
 
+fn sum_of_shares(lines: &[Share]) -> Lots
+    requires { sum (shares_of lines.now) < 2 ^ 64 }
+    ensures { result.0 ≡ sum (shares_of lines.now) }
+{
+    Lots(lines.iter().map(|line| line.share.0).sum())
+}
+
 /// Gives the rest out on top of the shares that stand on the lines.
 fn hand_out(lines: &mut [Share], rest: Lots)
     ensures { lines.new ≡ filled lines.old (topped_up (lots_of lines.old) (shares_of lines.old) rest.0) }
 {
-    let mut left = rest.0;
+    let mut left = rest;
     for line in lines.iter_mut() {
-        let extra = room(*line).min(left);
-        line.share = Lots(line.share.0 + extra);
-        left -= extra;
+        let extra = take(&mut left, room(*line));
+        line.share = Lots(line.share.0 + extra.0);
     }
 }
 
 /// What a line can take of the rest: one lot, where its share is below its lots.
-fn room(line: Share) -> u64
-    ensures answer { result ≡ room_for line.lots.0 line.share.0 }
-    ensures fits { line.share.0 + result < 2 ^ 64 }
+fn room(line: Share) -> Lots
+    ensures answer { result.0 ≡ room_for line.lots.0 line.share.0 }
+    ensures fits { line.share.0 + result.0 < 2 ^ 64 }
 {
-    if line.share.0 < line.lots.0 { 1 } else { 0 }
+    if line.share < line.lots {
+        Lots(1)
+    } else {
+        Lots(0)
+    }
 }

@@ -6,14 +6,9 @@ use Rattle.sharing.proofs.pro_rata.hand_out.Goals as goal
 
 pub loop-line-preserved : goal.loop-line-preserved
 loop-line-preserved c =
-    let lines = c.loop-line.lines in
-    let m = walk_more top_write top_next lines c.loop-line.line-index c.loop-line.left blank (omega arith) in
-    rw (c.min-extra.ensures, c.room.ensures.answer) (m ∙ c.loop-line.invariant)
+    rw (c.take-extra.ensures.taken, c.take-extra.ensures.rest, c.room.ensures.answer) (walk_more top_write top_next c.loop-line.lines c.loop-line.line-index c.loop-line.left.0 blank (omega arith) ∙ c.loop-line.invariant)
 
 pub returns : goal.returns
 returns c =
-    let lines = c.loop-line.lines in
-    let i = c.loop-line.line-index in
-    let h : length lines ≤ i = omega arith in
-    sym (walk_all top_write top_next lines i c.loop-line.left h) ∙ c.loop-line.invariant ∙
-    top_walk c.args.rest.0 c.args.lines.now
+    let done : length c.loop-line.lines ≤ c.loop-line.line-index = omega arith in
+    sym (walk_all top_write top_next c.loop-line.lines c.loop-line.line-index c.loop-line.left.0 done) ∙ c.loop-line.invariant ∙ top_walk c.args.rest.0 c.args.lines.now
