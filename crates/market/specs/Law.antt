@@ -1,6 +1,6 @@
 -- What holds after every call of every run.
 use Rattle.std.specs.Prelude.{◌≡◌, ℕ, suc, ◌+◌, ◌*◌, ◌<◌, ◌≤◌, true, false, cond, ◌≢◌, List, [], ◌∷◌, length, ◌==◌, nat_eq}
-use Rattle.std.specs.List.{ContainsAt as Has, AllByRecursion}
+use Rattle.std.specs.List.{Contains, AllByRecursion}
 use Rattle.ordered_list.specs.Order.{in_order}
 use Rattle.units.specs.Ranges.{is_participant, is_price, is_order_size}
 use Rattle.units.specs.declared.participant.Participant.{Participant}
@@ -120,7 +120,7 @@ pub record Books (s : State) : Type 0 where
   pub few : length s.orders ≤ most_orders
   pub numbered : NumberedFrom 1 s.orders
   pub in_range : AllByRecursion InRange s.orders
-  pub recorded : AllByRecursion (λ e. Has s.orders e.order) (waiting s)
+  pub recorded : AllByRecursion (λ e. Contains s.orders e.order) (waiting s)
   pub lots_wait : AllByRecursion (λ e. (0 < lots_of e) × (lots_of e ≤ e.order.accepted.0)) (waiting s)
   pub distinct : Distinct (waiting s)
   pub selling : AllByRecursion (λ e. e.order.side ≡ Sell) s.sells
