@@ -3,6 +3,7 @@ use Rattle.std.proofs.Common.{◌≡◌, ℕ, ◌+◌, ◌-◌, ◌^◌, ◌<◌
 use Rattle.std.specs.List.{AllByRecursion, last_or}
 use Rattle.std.specs.Option.{unwrap_or}
 use Rattle.std.proofs.ByRecursion.{All-weaker, all_kept_by}
+use Rattle.std.proofs.lemmas.Simd.{map-map}
 use Rattle.std.proofs.lemmas.Bool.{leb-true, le-leb, cond_both}
 use Rattle.market.specs.declared.order.Resting.{Resting}
 use Rattle.market.specs.Orders.{every, total_if, limit_of, lots_of, lots_in}
@@ -13,7 +14,7 @@ use Rattle.pricing.specs.declared.line.Line.{Line}
 use Rattle.pricing.specs.Candidates.{volume_of, imbalance_of, least_of, least_imbalance, has_figures, candidate_lines}
 use Rattle.pricing.specs.Lines.{price_of, line_at, lines_at}
 use Rattle.pricing.proofs.Figures.{highest_above, highest_le, least_below, least_ge, lowest-last}
-use Rattle.pricing.proofs.Keeping.{kept_both, kept_map, map-map, kept_best, all-every}
+use Rattle.pricing.proofs.Keeping.{kept_both, kept_map, kept_best, all-every}
 use Rattle.pricing.proofs.Limits.{Downward, limits_downward}
 use Rattle.pricing.proofs.Each.{all_any}
 use Rattle.pricing.proofs.Placing.{prices_lines}

@@ -1,21 +1,8 @@
--- What passes a test, of a list and of what is left of it.
-use Rattle.std.proofs.Common.{◌≡◌, ℕ, ◌+◌, ◌<◌, ◌≤◌, Bool, true, false, cond, ◌&&◌, eqb, List, [], ◌∷◌, map, length, get_or, drop, filter, sym, refl, ap, ◌∙◌, inl, inr}
+-- What of a list passes a test.
+use Rattle.std.proofs.Common.{◌≡◌, ℕ, Bool, true, cond, ◌&&◌, eqb, List, [], ◌∷◌, map, filter, sym, refl, ap, ◌∙◌, inl, inr}
 use Rattle.std.specs.List.{AllByRecursion}
-use Rattle.std.proofs.lemmas.List.{at_drop_more, at_drop_all}
 use Rattle.std.proofs.lemmas.Bool.{cases_Bool, eqb-true, eqb-false, and_from, and_parts}
 use Rattle.market.specs.Orders.{every}
-
--- the next element passes, it does not, and there is none
-pub kept_more_yes : {X : Type 0} (test : X → Bool) (xs : List X) (i : ℕ) (d : X) → i < length xs → test (get_or xs i d) ≡ true →
-    filter test (drop i xs) ≡ get_or xs i d ∷ filter test (drop (i + 1) xs)
-kept_more_yes test xs i d l t = at_drop_more (filter test) xs i d l ∙ rw t refl
-
-pub kept_more_no : {X : Type 0} (test : X → Bool) (xs : List X) (i : ℕ) (d : X) → i < length xs → test (get_or xs i d) ≡ false →
-    filter test (drop i xs) ≡ filter test (drop (i + 1) xs)
-kept_more_no test xs i d l t = at_drop_more (filter test) xs i d l ∙ rw t refl
-
-pub kept_all : {X : Type 0} (test : X → Bool) (xs : List X) (i : ℕ) → length xs ≤ i → filter test (drop i xs) ≡ []
-kept_all test xs i l = at_drop_all (filter test) xs i l
 
 -- two tests that agree on each element
 pub kept_same : {X : Type 0} (t u : X → Bool) (xs : List X) → AllByRecursion (λ x. t x ≡ u x) xs → filter t xs ≡ filter u xs
@@ -37,10 +24,6 @@ kept_map test f (x ∷ xs) = elim (cases_Bool (test (f x))) [
   | inl e ↦ rw e (ap (λ zs. f x ∷ zs) (kept_map test f xs))
   | inr e ↦ rw e (kept_map test f xs)
 ]
-
-pub map-map : {X Y Z : Type 0} (g : Y → Z) (f : X → Y) (xs : List X) → map g (map f xs) ≡ map (λ x. g (f x)) xs
-map-map g f [] = refl
-map-map g f (x ∷ xs) = ap (λ zs. g (f x) ∷ zs) (map-map g f xs)
 
 -- every one
 pub every_from : {X : Type 0} (test : X → Bool) (xs : List X) → AllByRecursion (λ x. test x ≡ true) xs → every test xs ≡ true

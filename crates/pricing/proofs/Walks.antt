@@ -11,12 +11,14 @@ use Rattle.market.specs.declared.order.Resting.{Resting}
 use Rattle.market.specs.Orders.{total, limit_of, lots_of, lots_in}
 use Rattle.market.specs.Prices.{supply, demand, limits_of}
 use Rattle.market.specs.Queues.{Queues}
+use Rattle.market.proofs.QueueEntries.{all_both}
+use Rattle.market.proofs.Totals.{total-append, all_first, all_second}
 use Rattle.pricing.specs.declared.line.Line.{Line}
 use Rattle.pricing.specs.Levels.{front_orders, front_lots}
 use Rattle.pricing.specs.Lines.{line_at, lines_at, next_limit}
-use Rattle.pricing.proofs.Each.{all_parts, all_both, all_any}
+use Rattle.pricing.proofs.Each.{all_any}
 use Rattle.pricing.proofs.Sides.{Sorted, queue_sorted}
-use Rattle.pricing.proofs.Totals.{total-append, total_none, total-whole}
+use Rattle.pricing.proofs.Totals.{total_none, total-whole}
 use Rattle.pricing.proofs.Reversed.{total-reverse, sorted-reverse}
 use Rattle.pricing.proofs.Fronts.{front_at, front_lots_lem, front_le, rest_beyond}
 use Rattle.pricing.proofs.Members.{some_gives, some-append_cases, some-append-left, some-append_right, some-reverse}
@@ -111,10 +113,9 @@ below_top p es s a = rest_beyond Buy p es s a
 further : (P R : Resting → Type 0) (p : ℕ) (os bs : List Resting) → AllByRecursion (λ x. limit_of x < p) (drop (front_orders p os) os) → AllByRecursion (λ x. limit_of x < p) (drop (front_orders p bs) bs) →
     ((x : Resting) → limit_of x < p → P x → R x) → AllByRecursion P (os ++ bs) → AllByRecursion R (drop (front_orders p os) os ++ drop (front_orders p bs) bs)
 further P R p os bs a b f h =
-    let k = all_parts P os bs h in
     All-append R (drop (front_orders p os) os) (drop (front_orders p bs) bs)
-    (all_both (λ x. limit_of x < p) P R f (drop (front_orders p os) os) a (All-drop P (front_orders p os) os k.0))
-    (all_both (λ x. limit_of x < p) P R f (drop (front_orders p bs) bs) b (All-drop P (front_orders p bs) bs k.1))
+    (all_both (λ x. limit_of x < p) P R f (drop (front_orders p os) os) a (All-drop P (front_orders p os) os (all_first P os bs h)))
+    (all_both (λ x. limit_of x < p) P R f (drop (front_orders p bs) bs) b (All-drop P (front_orders p bs) bs (all_second P os bs h)))
 
 -- the limits left are p and those behind the levels at p
 limits_next : (p : ℕ) (os bs : List Resting) → has_limit p (os ++ bs) ≡ true → AllByRecursion (λ x. limit_of x < p) (drop (front_orders p os) os) → AllByRecursion (λ x. limit_of x < p) (drop (front_orders p bs) bs) →
