@@ -5,7 +5,6 @@ pub mod Entering
 pub mod Annulling
 pub mod AccountFigures
 pub mod Accounting
-pub mod PeakMembers
 pub mod PeakBest
 pub mod PeakLimits
 pub mod PeakVolume

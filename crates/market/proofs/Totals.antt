@@ -26,18 +26,14 @@ total_parted f test (x ∷ xs) = by (test x) (total_parted f test xs)
     by true e = omega arith
     by false e = omega arith
 
--- figures that are the same of each line, that are 0, that are in order
-pub total_same : {X : Type 0} (f g : X → ℕ) (xs : List X) → AllByRecursion (λ x. f x ≡ g x) xs → total f xs ≡ total g xs
-total_same f g [] a = refl
-total_same f g (x ∷ xs) a = omega (arith, a.0, total_same f g xs a.1)
-
+-- figures that are 0 of each line, and figures of which one is nowhere greater
 pub total_none : {X : Type 0} (f : X → ℕ) (xs : List X) → AllByRecursion (λ x. f x ≡ 0) xs → total f xs ≡ 0
 total_none f [] a = refl
 total_none f (x ∷ xs) a = omega (arith, a.0, total_none f xs a.1)
 
-pub total_le : {X : Type 0} (f g : X → ℕ) (xs : List X) → AllByRecursion (λ x. f x ≤ g x) xs → total f xs ≤ total g xs
-total_le f g [] a = omega arith
-total_le f g (x ∷ xs) a = omega (arith, a.0, total_le f g xs a.1)
+pub total_le : {X : Type 0} (f g : X → ℕ) → ((x : X) → f x ≤ g x) → (xs : List X) → total f xs ≤ total g xs
+total_le f g le [] = omega arith
+total_le f g le (x ∷ xs) = omega (arith, le x, total_le f g le xs)
 
 -- what holds of each line, and of one more
 pub all_inserted : {X : Type 0} (P : X → Type 0) (xs : List X) (i : ℕ) (x : X) → AllByRecursion P xs → P x → AllByRecursion P (insert xs i x)

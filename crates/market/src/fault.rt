@@ -32,6 +32,7 @@ pub enum SessionFault {
     Depository(DepositoryFault),
 }
 
+// The two conversions are written out: what they give stands in `from_gives`, and a derived From has no such clause.
 impl From<DepositoryFault> for SessionFault {
     ghost from_gives = { λ fault r. r ≡ OfDepository fault };
 
@@ -40,12 +41,12 @@ impl From<DepositoryFault> for SessionFault {
     }
 }
 
-impl SessionFault {
-    /// What the refusal is known by outside.
-    pub fn code(self) -> RefusalCode
-        ensures { result ≡ code_of self }
-    {
-        let number = match self {
+/// What the refusal is known by outside.
+impl From<SessionFault> for RefusalCode {
+    ghost from_gives = { λ fault code. code ≡ code_of fault };
+
+    fn from(fault: SessionFault) -> RefusalCode {
+        let number = match fault {
             SessionFault::NoParticipant => 11,
             SessionFault::PriceOutOfRange => 12,
             SessionFault::LotsOutOfRange => 13,
