@@ -1,10 +1,10 @@
 -- The limits of waiting orders, each once, price downward: they depend only on which limits there are.
 use Rattle.std.proofs.Common.{◌≡◌, ℕ, ◌<◌, ◌≤◌, Bool, true, false, ◌||◌, eqb, ltb, ◌⊎◌, List, [], ◌∷◌, ◌++◌, sym, refl, ap, ◌∙◌, subst, inl, inr, arith}
-use Rattle.std.specs.List.{AllByRecursion}
+use Rattle.std.specs.List.{AllByRecursion, list_any}
 use Rattle.std.proofs.ByRecursion.{All-weaker}
 use Rattle.std.proofs.lemmas.Bool.{cases_Bool, or_cases, or_left, or_right, both_ways, eqb-true, eqb-false, eq-eqb, ltb-true, ltb-false}
 use Rattle.market.specs.declared.order.Resting.{Resting}
-use Rattle.market.specs.Orders.{some, limit_of}
+use Rattle.market.specs.Orders.{limit_of}
 use Rattle.market.specs.Prices.{into, limits_of}
 
 -- prices that go strictly downward
@@ -14,10 +14,10 @@ Downward (p ∷ ps) = AllByRecursion (λ q. q < p) ps × Downward ps
 
 -- whether q is one of the prices, and whether it is the limit of one of the orders
 abbrev pub among : ℕ → List ℕ → Bool
-among q ps = some (λ p. eqb q p) ps
+among q ps = list_any (λ p. eqb q p) ps
 
 abbrev pub has_limit : ℕ → List Resting → Bool
-has_limit q es = some (λ e. eqb q (limit_of e)) es
+has_limit q es = list_any (λ e. eqb q (limit_of e)) es
 
 all_among : (P : ℕ → Type 0) (ps : List ℕ) (q : ℕ) → AllByRecursion P ps → among q ps ≡ true → P q
 all_among P [] q a e = absurd (both_ways false refl e)

@@ -10,7 +10,7 @@ use Rattle.market.specs.Orders.{limit_of}
 use Rattle.pricing.specs.Levels.{front_orders}
 use Rattle.pricing.specs.Lines.{next_limit}
 use Rattle.pricing.proofs.Sides.{Sorted}
-use Rattle.pricing.proofs.Members.{some-append_right}
+use Rattle.pricing.proofs.Members.{any-append_right}
 use Rattle.pricing.proofs.Limits.{has_limit}
 
 -- the order at the front of one list has the limit
@@ -66,7 +66,7 @@ next_top (o ∷ os) (b ∷ bs) price s t e =
 fronted_has : (p : ℕ) (os bs : List Resting) → Fronted p os bs → has_limit p (os ++ bs) ≡ true
 fronted_has p (o ∷ os) bs (offer h) = or_left (eqb p (limit_of o)) (has_limit p (os ++ bs)) (eq-eqb p (limit_of o) (sym h))
 fronted_has p os (b ∷ bs) (bid h) =
-    some-append_right (λ e. eqb p (limit_of e)) os (b ∷ bs) (or_left (eqb p (limit_of b)) (has_limit p bs) (eq-eqb p (limit_of b) (sym h)))
+    any-append_right (λ e. eqb p (limit_of e)) os (b ∷ bs) (or_left (eqb p (limit_of b)) (has_limit p bs) (eq-eqb p (limit_of b) (sym h)))
 
 -- it is one of the limits
 pub next_has : (os bs : List Resting) (price : Price) → next_limit os bs ≡ Some price → has_limit price.0 (os ++ bs) ≡ true

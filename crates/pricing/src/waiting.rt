@@ -116,7 +116,7 @@ impl Waiting<'_> {
             .iter()
             .chain(self.buys)
             .filter(|entry| span.has_end(entry.order.limit))
-            .min_by_key(|entry| entry.order.number.0)
+            .min_by_key(|entry| entry.order.number)
             .map_or(Price(0), |earliest| earliest.order.limit)
     }
 }
