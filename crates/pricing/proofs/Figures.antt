@@ -29,10 +29,6 @@ pub least_ge : {X : Type 0} (top : ℕ) (f : X → ℕ) (m : ℕ) (xs : List X) 
 least_ge top f m [] t a = t
 least_ge top f m (x ∷ xs) t a = omega (arith, a.0, least_ge top f m xs t a.1)
 
-pub least_le_top : (top : ℕ) (ns : List ℕ) → least_of top ns ≤ top
-least_le_top top [] = omega arith
-least_le_top top (n ∷ ns) = omega (arith, least_le_top top ns)
-
 -- the first is the lowest where none is below it
 lowest_ge : {X : Type 0} (f : X → ℕ) (m : ℕ) (x : X) (xs : List X) → m ≤ f x → AllByRecursion (λ y. m ≤ f y) xs → m ≤ lowest (map f (x ∷ xs))
 lowest_ge f m x [] h a = h

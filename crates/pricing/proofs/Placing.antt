@@ -2,13 +2,13 @@
 use Rattle.std.proofs.Common.{◌≡◌, ℕ, suc, ◌<◌, Bool, false, ltb, List, [], ◌∷◌, ◌++◌, map, length, take, drop, sym, refl, ap, ◌∙◌, subst, arith}
 use Rattle.std.specs.List.{AllByRecursion}
 use Rattle.std.proofs.lemmas.List.{take_all, drop_all, map-append, map-id}
+use Rattle.std.proofs.lemmas.Simd.{map-map}
 use Rattle.std.proofs.lemmas.Bool.{and_left, le-ltb, lt-ltb, cond-true}
 use Rattle.ordered_list.specs.Order.{all_after, position_of, placed}
 use Rattle.market.specs.declared.order.Resting.{Resting}
 use Rattle.market.specs.Prices.{waiting_limits}
 use Rattle.pricing.specs.declared.line.Line.{Line}
 use Rattle.pricing.specs.Lines.{price_of, by_price, added, line_at, lines_at}
-use Rattle.pricing.proofs.Keeping.{map-map}
 use Rattle.pricing.proofs.Limits.{Downward, limits_downward, downward_above}
 
 position_last : {X : Type 0} (after : X → X → Bool) (x : X) (ys : List X) → AllByRecursion (λ y. after y x ≡ false) ys → position_of after x ys ≡ length ys

@@ -28,7 +28,8 @@ pub(crate) fn first_level(queue: &[Resting], limit: Price) -> Level<'_>
     }
 }
 
-/// The orders at the back that have this limit, which is the front of the queue the other way round.
+/// The orders at the back that have this limit: the front of the queue the other way round. Kept beside `first_level`, since an
+/// iterator that serves both ends counts the orders, but doesn't give the slice that is left.
 pub(crate) fn last_level(queue: &[Resting], limit: Price) -> Level<'_>
     ensures lots { result.lots.0 ≡ min (front_lots limit.0 (reverse queue.now)) (2 ^ 64 - 1) }
     ensures rest { reverse result.rest.now ≡ drop (front_orders limit.0 (reverse queue.now)) (reverse queue.now) }

@@ -29,7 +29,8 @@ impl Waiting<'_> {
             return None;
         }
         let lines = self.walk();
-        Some(self.settled_between(candidates(lines.as_slice())))
+        let best = candidates(lines.as_slice());
+        Some(self.settled_between(best))
     }
 
     /// Writes the summary to the front of the caller's slice, a line for each waiting limit, price downward, and answers how
@@ -88,6 +89,7 @@ impl Waiting<'_> {
     fn settled_between(self, span: Span) -> Price
         ensures { Queues self.entry.sells.now self.entry.buys.now → result.0 ≡ settled_between self.entry.sells.now self.entry.buys.now span.low.0 span.high.0 }
     {
+        // Kept as a match: tried with `unwrap_or_else`, and the check no longer finds the proof alone.
         match span.whole_mean() {
             Some(mean) => mean,
             None => self.by_sides(span),
@@ -114,7 +116,7 @@ impl Waiting<'_> {
             .iter()
             .chain(self.buys)
             .filter(|entry| span.has_end(entry.order.limit))
-            .min_by_key(|entry| entry.order.number.0)
+            .min_by_key(|entry| entry.order.number)
             .map_or(Price(0), |earliest| earliest.order.limit)
     }
 }
@@ -133,7 +135,7 @@ fn write_lines(walked: &[Line], lines: &mut [SummaryLine])
     requires { length walked.now ≤ length lines.old }
     ensures { lines.new ≡ map summary_of walked.now ++ drop (length walked.now) lines.old }
 {
-    // indexed, since of what is written through a chain over `iter_mut` nothing is known after the loop
+    // Kept indexed: tried with `zip`, and of what is written through a chain over `iter_mut` the proof knows nothing afterwards.
     for (i, line) in walked.iter().enumerate() {
         lines[i] = SummaryLine::from(*line);
     }

@@ -1,7 +1,7 @@
 use Rattle.std.proofs.Common.{set, ap, ◌∙◌, arith}
 use Rattle.pricing.specs.Lines.{summary_of}
 use Rattle.pricing.proofs.Blank.{no_line}
-use Rattle.pricing.proofs.Writing.{written_more, written_all}
+use Rattle.pricing.proofs.Writing.{written_more}
 use Rattle.pricing.proofs.waiting.write_lines.Goals as goal
 
 pub loop-i-preserved : goal.loop-i-preserved
@@ -9,6 +9,3 @@ loop-i-preserved c =
     let i = c.loop-i.i in
     ap (set c.loop-i.lines i) c.from.ensures ∙
     written_more summary_of c.args.walked.now c.args.lines.now c.loop-i.lines i no_line c.loop-i-test.true (omega (arith, c.requires, c.loop-i-test.true)) c.loop-i.invariant
-
-pub returns : goal.returns
-returns c = written_all summary_of c.args.walked.now c.args.lines.now c.loop-i.lines c.loop-i.i c.loop-i-test.false c.loop-i.auto.i-end c.loop-i.invariant

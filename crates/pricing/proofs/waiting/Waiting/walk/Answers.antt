@@ -6,7 +6,7 @@ use Rattle.pricing.specs.Levels.{front_orders}
 use Rattle.pricing.proofs.Reversed.{total-reverse}
 use Rattle.pricing.proofs.Tops.{next_some}
 use Rattle.pricing.proofs.Turns.{walk_turn}
-use Rattle.pricing.proofs.Walks.{walk_starts, walk_ends}
+use Rattle.pricing.proofs.Walks.{walk_starts}
 use Rattle.pricing.proofs.waiting.Waiting.walk.Goals as goal
 
 pub loop-price-init : goal.loop-price-init
@@ -39,7 +39,3 @@ loop-price-preserved c = λ q.
     c.loop-price.lines c.add.new.self c.loop-price.supply.0 c.loop-price.demand.0 c.saturating_sub.result c.saturating_add.result c.last_level-offered.result.lots.0 c.first_level-asked.result.lots.0 c.in-Some.price
     q (c.loop-price.invariant q) (sym c.in-Some.ensures) c.last_level-offered.ensures.rest c.first_level-asked.ensures.rest c.last_level-offered.ensures.lots c.first_level-asked.ensures.lots
     c.saturating_add.ensures c.saturating_sub.ensures c.add.ensures
-
-pub returns : goal.returns
-returns c = λ q.
-    walk_ends c.args.self.sells.now c.args.self.buys.now (reverse c.loop-price.sells.now) c.loop-price.buys.now c.loop-price.lines c.loop-price.supply.0 c.loop-price.demand.0 (c.loop-price.invariant q) (sym c.in_default.ensures)
