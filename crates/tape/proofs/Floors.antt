@@ -1,8 +1,8 @@
 -- What one call of the session, and one command, make of the floor.
-use Rattle.std.proofs.Common.{◌≡◌, List, [], ◌∷◌, length, get_or, Ok, Result, sym, ap, ◌∙◌, arith}
-use Rattle.units.specs.Answers.{and_then, if_ok}
+use Rattle.std.proofs.Common.{◌≡◌, List, [], ◌∷◌, length, Ok, Result, sym, ap, ◌∙◌, arith}
+use Rattle.units.specs.Answers.{and_then}
 use Rattle.market.specs.declared.call.Call.{Call}
-use Rattle.market.specs.Runs.{Desk, Reply, answer_to, desk_after, Run}
+use Rattle.market.specs.Runs.{Desk, Reply, desk_after, Run}
 use Rattle.market.proofs.KeptCalls.{kept_call}
 use Rattle.market.proofs.Slips.{matched_call}
 use Rattle.session.specs.Desks.{calls_made}
@@ -11,24 +11,21 @@ use Rattle.command.specs.declared.command.Command.{Command}
 use Rattle.command.specs.declared.fault.TapeFault.{TapeFault}
 use Rattle.command.specs.declared.fault.TapeFault.TheVariants.{NoSuchRule}
 use Rattle.units.proofs.Checks.{checked_ok, ok_value}
+use Rattle.tape.specs.Desks.{Orderly}
 use Rattle.tape.specs.Tasks.{task_of}
-use Rattle.tape.specs.Stages.{Floor, in_session, Orderly, task_answer, task_after, command_answer, command_after}
+use Rattle.tape.specs.Stages.{Floor, task_answer, command_answer}
 
 -- a run of one call
-pub one_call : (call : Call) (replies : List Reply) (d : Reply) (start end : Desk) → length replies ≡ 1 → Run start (calls_made (call ∷ []) replies) end →
-    (get_or replies 0 d ≡ answer_to call start) × (end ≡ desk_after call start)
-one_call call [] d start end long r = absurd (omega arith)
-one_call call (a ∷ rest) d start end long r = (r.0, sym r.1)
+pub one_call : (call : Call) (replies : List Reply) (start end : Desk) → length replies ≡ 1 → Run start (calls_made (call ∷ []) replies) end → end ≡ desk_after call start
+one_call call [] start end long r = absurd (omega arith)
+one_call call (a ∷ rest) start end long r = sym r.1
 
--- every call leaves an orderly floor
-pub orderly_call : (call : Call) (d : Desk) → Orderly (in_session d) → Orderly (in_session (desk_after call d))
+-- every call leaves an orderly desk
+pub orderly_call : (call : Call) (d : Desk) → Orderly d → Orderly (desk_after call d)
 orderly_call call d o = (kept_call call d o.0, matched_call call d o.1)
 
 -- a command that is checked is itself, and its task is done
-pub command_done : (command checked : Command) (f : Floor) → Ok checked ≡ checked_of command →
-    (task_answer (task_of checked) f ≡ command_answer command f) × (task_after (task_of checked) f ≡ command_after command f)
-command_done command checked f e =
-    let same : checked ≡ command = ok_value checked command (checked_ok (names_no_unknown_rule command) NoSuchRule (Ok command) checked e).1 in (
-      ap (λ c. task_answer (task_of c) f) same ∙ ap (λ (r : Result Command TapeFault). and_then r (task_answer (task_of command) f)) e,
-      ap (λ c. task_after (task_of c) f) same ∙ ap (λ (r : Result Command TapeFault). if_ok r (task_after (task_of command) f) f) e,
-    )
+pub command_answered : (command checked : Command) (f : Floor) → Ok checked ≡ checked_of command → task_answer (task_of checked) f ≡ command_answer command f
+command_answered command checked f e =
+    let same : checked ≡ command = ok_value checked command (checked_ok (names_no_unknown_rule command) NoSuchRule (Ok command) checked e).1 in
+    ap (λ c. task_answer (task_of c) f) same ∙ ap (λ (r : Result Command TapeFault). and_then r (task_answer (task_of command) f)) e

@@ -1,5 +1,6 @@
 -- The answer to a command: where it stands, and what it came to.
-use Rattle.std.specs.Prelude.{ℕ, Ok, Err, Result}
+use Rattle.std.specs.Prelude.{ℕ, List, [], ◌∷◌, Some, None, Ok, Err, Option, Result, decimal}
+use Rattle.units.specs.declared.refusal.RefusalCode.{RefusalCode}
 use Rattle.market.specs.declared.call.Outcome.{Outcome}
 use Rattle.market.specs.declared.call.Outcome.TheVariants.{Accepted, Withdrawn, CutOff, Abandoned, Annulled}
 use Rattle.command.specs.Refusals.{code_of}
@@ -7,22 +8,35 @@ use Rattle.command.specs.declared.fault.TapeFault.{TapeFault}
 use Rattle.tape.specs.declared.answer.TapeAnswer.{TapeAnswer}
 use Rattle.tape.specs.declared.answer.Figures.{Figures}
 
-abbrev pub figures : ℕ → ℕ → Figures
-figures order figure = record { order = order; figure = figure }
+-- what a command came to: what a call of the session answers, and nothing at a pay-in or the opening
+abbrev pub Done : Type 0
+Done = Result (Option Outcome) TapeFault
+
+-- the answer of the command at this offset
+abbrev pub line_of : ℕ → Done → TapeAnswer
+line_of offset done = record { offset = offset; outcome = done }
+
+-- the figures of an accepted command: layer and number are 0
+abbrev pub accepted : ℕ → ℕ → Figures
+accepted order figure = record { layer = 0; number = 0; order = order; figure = figure }
+
+-- and of a refused one: order and figure are 0
+abbrev pub refused : RefusalCode → Figures
+refused code = record { layer = code.layer; number = code.number; order = 0; figure = 0 }
 
 -- an order's number where an order was taken or withdrawn, and the lots accepted or annulled, or the cut-off
-abbrev pub figures_of : Outcome → Figures
-figures_of (Accepted order lots) = figures order.0 lots.0
-figures_of (Withdrawn order lots) = figures order.0 lots.0
-figures_of (CutOff price) = figures 0 price.0
-figures_of Abandoned = figures 0 0
-figures_of (Annulled lots) = figures 0 lots.0
+abbrev pub figures_of : Done → Figures
+figures_of (Ok None) = accepted 0 0
+figures_of (Ok (Some (Accepted order lots))) = accepted order.0 lots.0
+figures_of (Ok (Some (Withdrawn order lots))) = accepted order.0 lots.0
+figures_of (Ok (Some (CutOff price))) = accepted 0 price.0
+figures_of (Ok (Some Abandoned)) = accepted 0 0
+figures_of (Ok (Some (Annulled lots))) = accepted 0 lots.0
+figures_of (Err fault) = refused (code_of fault)
 
--- what a command came to
-abbrev pub Done : Type 0
-Done = Result Figures TapeFault
+-- offset and figures in decimal
+abbrev pub fields_of : ℕ → Figures → List (List ℕ)
+fields_of offset f = decimal offset ∷ decimal f.layer ∷ decimal f.number ∷ decimal f.order ∷ decimal f.figure ∷ []
 
--- the answer of the command at this offset: layer and number are 0 where it is accepted; order and figure where it is refused
-abbrev pub line_of : ℕ → Done → TapeAnswer
-line_of offset (Ok f) = record { offset = offset; layer = 0; number = 0; order = f.order; figure = f.figure }
-line_of offset (Err fault) = record { offset = offset; layer = (code_of fault).layer; number = (code_of fault).number; order = 0; figure = 0 }
+abbrev pub answer_fields : TapeAnswer → List (List ℕ)
+answer_fields a = fields_of a.offset (figures_of a.outcome)

@@ -1,4 +1,5 @@
 pub mod Answers
+pub mod Desks
 pub mod Hosts
 pub mod Plays
 pub mod Results

@@ -1,14 +1,13 @@
 -- The run of a tape.
-use Rattle.std.specs.Prelude.{ℕ, ◌-◌, false, List, [], ◌∷◌, length, replicate, Ok, Err, Result}
+use Rattle.std.specs.Prelude.{ℕ, ◌-◌, List, [], ◌∷◌, length, replicate, Ok, Err, Result}
 use Rattle.depository.specs.Accounts.{empty}
-use Rattle.market.specs.declared.call.Call.TheVariants.{Annul, Close}
-use Rattle.market.specs.Calls.{opened}
-use Rattle.market.specs.Runs.{Desk, desk_after}
+use Rattle.market.specs.Runs.{Desk}
 use Rattle.command.specs.Reads.{read_one}
 use Rattle.command.specs.declared.command.Command.{Command}
 use Rattle.command.specs.declared.fault.TapeFault.{TapeFault}
 use Rattle.tape.specs.declared.answer.TapeAnswer.{TapeAnswer}
 use Rattle.tape.specs.Answers.{Done, line_of}
+use Rattle.tape.specs.Desks.{newly_opened, annulled_and_closed}
 use Rattle.tape.specs.Stages.{Floor, unopened, in_session, command_answer, command_after}
 
 -- one turn: what the command at the front of the tape came to, what it made of the floor, and the rest of the tape
@@ -39,5 +38,5 @@ start = unopened (replicate 64 empty)
 -- what a floor leaves in the end: a session that is not closed is annulled if struck, and closed. A run that never opened
 -- leaves what a session without orders leaves
 abbrev pub left : Floor → Desk
-left (unopened accounts) = desk_after Close (desk_after Annul (record { session = opened accounts; slip = false }))
-left (in_session d) = desk_after Close (desk_after Annul d)
+left (unopened accounts) = annulled_and_closed (newly_opened accounts)
+left (in_session d) = annulled_and_closed d

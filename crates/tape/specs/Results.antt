@@ -1,5 +1,5 @@
 -- What the run of a tape comes to.
-use Rattle.std.specs.Prelude.{◌≡◌, ℕ, ◌<◌, ◌≤◌, List, length, take, Ok, Err, Result}
+use Rattle.std.specs.Prelude.{◌≡◌, ℕ, ◌<◌, ◌≤◌, List, length, Ok, Err, Result}
 use Rattle.market.specs.declared.deal.Deal.{Deal}
 use Rattle.market.specs.declared.deal.Cancellation.{Cancellation}
 use Rattle.market.specs.State.{State}
@@ -8,11 +8,12 @@ use Rattle.tape.specs.declared.answer.TapeAnswer.{TapeAnswer}
 use Rattle.tape.specs.declared.host.HostFault.{HostFault}
 use Rattle.tape.specs.declared.host.HostFault.TheVariants.{TapeTooLong}
 use Rattle.tape.specs.declared.played.Played.{Played}
-use Rattle.tape.specs.Stages.{Floor, accounts_in}
+use Rattle.tape.specs.Desks.{accounts_in}
+use Rattle.tape.specs.Stages.{Floor}
 use Rattle.tape.specs.Plays.{Plays, start, left}
 
 abbrev pub answers_in : Played → List TapeAnswer
-answers_in p = take p.count p.answers
+answers_in p = p.answers.items
 
 -- the session that is left
 abbrev pub state_in : Played → State

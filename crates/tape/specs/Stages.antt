@@ -1,15 +1,11 @@
 -- What commands do, before open and after it.
-use Rattle.std.specs.Prelude.{◌≡◌, false, List, Err}
+use Rattle.std.specs.Prelude.{List, Some, None, Err}
 use Rattle.units.specs.Answers.{answered, raised, and_then, if_ok}
 use Rattle.depository.specs.declared.account.Account.{Account}
 use Rattle.depository.specs.Calls.{pay_in_answer, pay_in_after}
-use Rattle.table_depository.specs.declared.table.TableDepository.{TableDepository}
 use Rattle.market.specs.declared.fault.SessionFault.TheVariants.{WrongPhase}
-use Rattle.market.specs.State.{is_struck}
-use Rattle.market.specs.Calls.{open_answer, opened}
+use Rattle.market.specs.Calls.{open_answer}
 use Rattle.market.specs.Runs.{Desk, answer_to, desk_after}
-use Rattle.market.specs.Law.{Kept}
-use Rattle.session.specs.Desks.{desk_of}
 use Rattle.command.specs.Rules.{checked_of}
 use Rattle.command.specs.declared.command.Command.{Command}
 use Rattle.command.specs.declared.fault.TapeFault.TheVariants.{Session, Depository}
@@ -17,7 +13,8 @@ use Rattle.tape.specs.declared.stage.Stage.{Stage}
 use Rattle.tape.specs.declared.stage.Stage.TheVariants.{Before, Opened}
 use Rattle.tape.specs.declared.task.Task.{Task}
 use Rattle.tape.specs.declared.task.Task.TheVariants.{PayIn, Open, Call, NotYet}
-use Rattle.tape.specs.Answers.{Done, figures, figures_of}
+use Rattle.tape.specs.Answers.{Done}
+use Rattle.tape.specs.Desks.{accounts_in, newly_opened}
 use Rattle.tape.specs.Tasks.{task_of}
 
 -- how far a run has come: before open everybody's account, after it a session and whether the slip is held
@@ -25,31 +22,28 @@ pub data Floor : Type 0 where
   unopened : List Account → Floor
   in_session : Desk → Floor
 
-abbrev pub accounts_in : TableDepository → List Account
-accounts_in t = t.accounts
-
 abbrev pub floor_of : Stage → Floor
 floor_of (Before depository) = unopened (accounts_in depository)
-floor_of (Opened session slip) = in_session (desk_of accounts_in session slip)
+floor_of (Opened desk) = in_session desk
 
 abbrev pub wrong_phase : Done
 wrong_phase = Err (Session WrongPhase)
 
 -- what a task comes to: pay-ins and open are for before open, calls for after it
 abbrev pub task_answer : Task → Floor → Done
-task_answer (PayIn who what) (unopened accounts) = answered (λ _. figures 0 0) (raised Depository (pay_in_answer accounts who what))
+task_answer (PayIn who what) (unopened accounts) = answered (λ _. None) (raised Depository (pay_in_answer accounts who what))
 task_answer (PayIn who what) (in_session d) = wrong_phase
-task_answer Open (unopened accounts) = answered (λ _. figures 0 0) (raised Session (open_answer accounts))
+task_answer Open (unopened accounts) = answered (λ _. None) (raised Session (open_answer accounts))
 task_answer Open (in_session d) = wrong_phase
 task_answer (Call call) (unopened accounts) = wrong_phase
-task_answer (Call call) (in_session d) = answered figures_of (raised Session (answer_to call d))
+task_answer (Call call) (in_session d) = answered Some (raised Session (answer_to call d))
 task_answer NotYet f = wrong_phase
 
 -- and what it makes of the floor
 abbrev pub task_after : Task → Floor → Floor
 task_after (PayIn who what) (unopened accounts) = unopened (pay_in_after accounts who what)
 task_after (PayIn who what) (in_session d) = in_session d
-task_after Open (unopened accounts) = in_session (record { session = opened accounts; slip = false })
+task_after Open (unopened accounts) = in_session (newly_opened accounts)
 task_after Open (in_session d) = in_session d
 task_after (Call call) (unopened accounts) = unopened accounts
 task_after (Call call) (in_session d) = in_session (desk_after call d)
@@ -61,8 +55,3 @@ command_answer command f = and_then (checked_of command) (task_answer (task_of c
 
 abbrev pub command_after : Command → Floor → Floor
 command_after command f = if_ok (checked_of command) (task_after (task_of command) f) f
-
--- what every floor of a run is like: the session is kept, and the slip is held just while it is struck
-abbrev pub Orderly : Floor → Type 0
-Orderly (unopened accounts) = Unit {0}
-Orderly (in_session d) = Kept d.session × (d.slip ≡ is_struck d.session.phase)

@@ -3,12 +3,10 @@
 //! Runs a tape: reads its commands one after the other, makes them, and answers each.
 
 mod answer;
-mod finish;
+mod desk;
 mod host;
-mod perform;
 mod played;
 mod playing;
-mod result;
 mod stage;
 mod task;
 

@@ -1,15 +1,39 @@
-ghost use Rattle.std.specs.Prelude.{◌≡◌, ◌≤◌, length};
-
 use super::answer::TapeAnswer;
+use arrayvec::ArrayVec;
+use market::{Cancellation, Deal};
 use session::Session;
 use table_depository::TableDepository;
 
 /// What the run of a tape comes to: an answer for each command, and the session that it leaves, closed.
 #[derive(Drop)]
 pub struct Played {
-    pub(crate) answers: [TapeAnswer; 4096],
-    pub(crate) count: usize,
+    // as many as a tape may have bytes: memory of a fixed size, in the value itself
+    pub(crate) answers: ArrayVec<TapeAnswer, 4096>,
     pub(crate) session: Session<TableDepository>,
-    ghost long: { length answers ≡ 4096 },
-    ghost few: { count ≤ 4096 },
+}
+
+impl Played {
+    ghost use Rattle.std.specs.Prelude.{◌≡◌};
+    ghost use Rattle.tape.specs.Results.{answers_in, deals_in, cancellations_in};
+
+    /// The answers, in the order of the commands.
+    pub fn answers(&self) -> &[TapeAnswer]
+        ensures { result.now ≡ answers_in self.now }
+    {
+        self.answers.as_slice()
+    }
+
+    /// The deal list.
+    pub fn deals(&self) -> &[Deal]
+        ensures { result.now ≡ deals_in self.now }
+    {
+        self.session.deals()
+    }
+
+    /// The cancellation list.
+    pub fn cancellations(&self) -> &[Cancellation]
+        ensures { result.now ≡ cancellations_in self.now }
+    {
+        self.session.cancellations()
+    }
 }

@@ -1,6 +1,3 @@
-ghost use Rattle.std.specs.Prelude.{◌≡◌};
-ghost use Rattle.tape.specs.Tasks.{task_of};
-
 use command::Command;
 use depository::Amount;
 use market::Call;
@@ -19,38 +16,40 @@ pub(crate) enum Task {
     NotYet,
 }
 
-/// The task of a command.
-pub(crate) fn task_of(command: Command) -> Task
-    ensures { result ≡ task_of command }
-{
-    match command {
-        Command::PayInLots { participant, lots } => Task::PayIn(participant, Amount::Lots(lots)),
-        Command::PayInMoney { participant, money } => {
-            Task::PayIn(participant, Amount::Money(money))
+// Written out: a From that a macro derives says nothing of what it gives.
+impl From<Command> for Task {
+    ghost use Rattle.std.specs.Prelude.{◌≡◌};
+    ghost use Rattle.tape.specs.Tasks.{task_of};
+
+    ghost from_gives = { λ command task. task ≡ task_of command };
+
+    fn from(command: Command) -> Task {
+        match command {
+            Command::PayInLots { participant, lots } => {
+                Task::PayIn(participant, Amount::Lots(lots))
+            }
+            Command::PayInMoney { participant, money } => {
+                Task::PayIn(participant, Amount::Money(money))
+            }
+            Command::Open => Task::Open,
+            Command::Submit {
+                participant,
+                side,
+                limit,
+                lots,
+            } => Task::Call(Call::Submit {
+                participant,
+                side,
+                limit,
+                lots,
+            }),
+            Command::Withdraw { participant, order } => {
+                Task::Call(Call::Withdraw { participant, order })
+            }
+            Command::Strike => Task::Call(Call::Strike),
+            Command::Add { .. } | Command::Deal { .. } => Task::NotYet,
+            Command::Annul => Task::Call(Call::Annul),
+            Command::Close => Task::Call(Call::Close),
         }
-        Command::Open => Task::Open,
-        Command::Submit {
-            participant,
-            side,
-            limit,
-            lots,
-        } => Task::Call(Call::Submit {
-            participant,
-            side,
-            limit,
-            lots,
-        }),
-        Command::Withdraw { participant, order } => {
-            Task::Call(Call::Withdraw { participant, order })
-        }
-        Command::Strike => Task::Call(Call::Strike),
-        Command::Add {
-            participant: _,
-            side: _,
-            lots: _,
-        } => Task::NotYet,
-        Command::Deal { rule: _ } => Task::NotYet,
-        Command::Annul => Task::Call(Call::Annul),
-        Command::Close => Task::Call(Call::Close),
     }
 }

@@ -1,16 +1,15 @@
-use Rattle.std.proofs.Common.{◌+◌, ◌≤◌, List, ◌++◌, length, take}
-use Rattle.tape.specs.declared.answer.TapeAnswer.{TapeAnswer}
-use Rattle.tape.specs.Stages.{Floor, floor_of, Orderly}
-use Rattle.tape.specs.Plays.{Plays, start}
+use Rattle.std.proofs.Common.{◌+◌, ◌≤◌, length}
+use Rattle.tape.specs.Stages.{floor_of}
+use Rattle.tape.specs.Plays.{start}
+use Rattle.tape.proofs.Turns.{Front}
 use Rattle.tape.proofs.playing.play_through.Given as goal
 
--- however the rest of the tape plays from here, the whole plays from the start with the answers so far in front
+-- there is room for an answer for each byte that is left, and the answers so far are the front of the whole tape's
 abbrev pub invariant-loop-rest : goal.invariant-loop-rest
-invariant-loop-rest l =
-    (l.count + length l.rest ≤ length l.tape)
-    × (Orderly (floor_of l.stage)
-    × ((answers : List TapeAnswer) (end : Floor) → Plays (length l.tape) l.rest (floor_of l.stage) answers end →
-    Plays (length l.tape) l.tape start (take l.count l.answers ++ answers) end))
+invariant-loop-rest l = record {
+  room : length l.answers.items + length l.rest ≤ length l.tape;
+  so_far : Front (length l.tape) l.tape start l.answers.items l.rest (floor_of l.stage);
+}
 
 abbrev pub decreases-loop-rest : goal.decreases-loop-rest
 decreases-loop-rest l = length l.rest

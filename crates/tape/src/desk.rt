@@ -1,0 +1,72 @@
+ghost use Rattle.std.specs.Prelude.{◌≡◌};
+ghost use Rattle.market.specs.Calls.{open_answer};
+ghost use Rattle.market.specs.Runs.{answer_to, desk_after};
+ghost use Rattle.session.specs.States.{state_of};
+ghost use Rattle.tape.specs.Desks.{accounts_in, newly_opened, annulled_and_closed};
+
+use market::{Answer, Call, SessionFault};
+use session::{Session, StrikeSlip, run};
+use std::marker::Model;
+use table_depository::TableDepository;
+
+/// A session after open, with the strike slip that the run keeps. A slip is held just while the session is struck.
+pub(crate) struct Desk {
+    session: Session<TableDepository>,
+    slip: Option<StrikeSlip>,
+}
+
+impl Model for Desk {
+    ghost use Rattle.market.specs.Runs.{Desk as Seen};
+
+    ghost Value = { Seen };
+
+    ghost use Rattle.session.specs.Desks.{desk_of};
+    ghost use Rattle.tape.specs.Desks.{accounts_in, Orderly};
+
+    ghost view = { λ d. desk_of accounts_in d.session d.slip };
+
+    ghost invariant = { λ d. Orderly (desk_of accounts_in d.session d.slip) };
+}
+
+impl Desk {
+    /// Opens a session over a depository. One whose opening is refused is Closed.
+    pub(crate) fn open(depository: TableDepository) -> (Result<(), SessionFault>, Desk)
+        ensures answer { result.0 ≡ open_answer (accounts_in depository) }
+        ensures after { result.1 ≡ newly_opened (accounts_in depository) }
+    {
+        let (answer, session) = match Session::open(depository) {
+            Ok(session) => (Ok(()), session),
+            Err((fault, session)) => (Err(fault), session),
+        };
+        let slip = None;
+        (answer, Desk { session, slip })
+    }
+
+    /// Makes a call.
+    pub(crate) fn call(self, call: Call) -> (Answer, Desk)
+        ensures answer { result.0 ≡ answer_to call self }
+        ensures after { result.1 ≡ desk_after call self }
+    {
+        let Desk { mut session, slip } = self;
+        let mut answers = [Err(SessionFault::WrongPhase)];
+        let slip = run(&mut session, slip, &[call], &mut answers);
+        (answers[0], Desk { session, slip })
+    }
+
+    /// Annuls if struck, then closes. Afterwards no slip is held, for annul has spent it.
+    pub(crate) fn close(self) -> Session<TableDepository>
+        ensures { state_of accounts_in result ≡ (annulled_and_closed self).session }
+    {
+        let Desk { mut session, slip } = self;
+        let mut answers = [Err(SessionFault::WrongPhase); 2];
+        match run(
+            &mut session,
+            slip,
+            &[Call::Annul, Call::Close],
+            &mut answers,
+        ) {
+            None => session,
+            Some(_) => unreachable(),
+        }
+    }
+}
