@@ -93,7 +93,7 @@ pub record Admitted (s : State) (who : Participant) (side : Side) (limit : Price
 -- an answer that is given where the depository accepts
 was_accepted : (answer : Done) (n m : OrderNumber) → Ok n ≡ given (raised Depository answer) m → answer ≡ Ok tt
 was_accepted (Ok u) n m e = refl
-was_accepted (Err refusal) n m e = let z : ◌≡◌ {A = ℕ} 0 1 = cc in absurd (omega arith)
+was_accepted (Err refusal) n m e = cc
 
 pub admitted : (s : State) (who : Participant) (side : Side) (limit : Price) (lots : Lots) (n : OrderNumber) → submit_answer s who side limit lots ≡ Ok n →
     Admitted s who side limit lots

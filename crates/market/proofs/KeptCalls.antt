@@ -1,6 +1,6 @@
 -- Every call leaves what it relies on, whatever the phase.
 use Rattle.std.proofs.Common.{◌≡◌, ℕ, Bool, true, false, cond, Some, None, Ok, Err, Option, Result, sym, refl, ap, ◌∙◌}
-use Rattle.std.proofs.lemmas.Bool.{false≢true, cond_both}
+use Rattle.std.proofs.lemmas.Bool.{false≢true, both_ways, cond_both}
 use Rattle.units.specs.Answers.{if_ok}
 use Rattle.units.specs.declared.participant.Participant.{Participant}
 use Rattle.units.specs.declared.quantity.Price.{Price}
@@ -31,23 +31,18 @@ if_ok_lem (Err refusal) new old P accepted refused = refused
 
 -- BY THE PHASE
 
-pub gathering_trades : (p : Phase) → is_gathering p ≡ true → is_trading p ≡ true
+gathering_trades : (p : Phase) → is_gathering p ≡ true → is_trading p ≡ true
 gathering_trades Gathering t = refl
 gathering_trades (Struck c) t = absurd (false≢true t)
 gathering_trades Continuous t = refl
 gathering_trades Closed t = absurd (false≢true t)
 
-trading_in : (p : Phase) (s : State) → KeptIn p s → is_trading p ≡ true → Books s
-trading_in Gathering s k t = k
-trading_in (Struck c) s k t = k.0
-trading_in Continuous s k t = k
-trading_in Closed s k t = absurd (false≢true t)
-
-struck_in : (p : Phase) (s : State) → KeptIn p s → is_struck p ≡ true → Books s
-struck_in Gathering s k t = k
-struck_in (Struck c) s k t = k.0
-struck_in Continuous s k t = k
-struck_in Closed s k t = absurd (false≢true t)
+-- the books are right in a phase that passes a test which Closed does not
+books_in : (test : Phase → Bool) → test Closed ≡ false → (p : Phase) (s : State) → KeptIn p s → test p ≡ true → Books s
+books_in test fails Gathering s k t = k
+books_in test fails (Struck c) s k t = k.0
+books_in test fails Continuous s k t = k
+books_in test fails Closed s k t = absurd (both_ways (test Closed) fails t)
 
 kept_in : (p : Phase) (s : State) → Books s → is_trading p ≡ true → KeptIn p s
 kept_in Gathering s b t = b
@@ -56,13 +51,13 @@ kept_in Continuous s b t = b
 kept_in Closed s b t = absurd (false≢true t)
 
 pub trading_books : (s : State) → Kept s → is_trading s.phase ≡ true → Books s
-trading_books s k t = trading_in s.phase s k t
+trading_books s k t = books_in is_trading refl s.phase s k t
 
 pub gathering-books : (s : State) → Kept s → is_gathering s.phase ≡ true → Books s
-gathering-books s k t = trading_books s k (gathering_trades s.phase t)
+gathering-books s k t = books_in is_gathering refl s.phase s k t
 
 pub struck_books : (s : State) → Kept s → is_struck s.phase ≡ true → Books s
-struck_books s k t = struck_in s.phase s k t
+struck_books s k t = books_in is_struck refl s.phase s k t
 
 -- while orders can be withdrawn, right books are all that is kept
 pub trading_kept : (s : State) → Books s → is_trading s.phase ≡ true → Kept s
