@@ -96,11 +96,8 @@ money_held_stays (Money n) a = (λ free. omega (arith, leb-true _ _ free), λ th
 -- what is blocked can be released
 pub release_passes : (accounts : List Account) (who : Participant) → is_participant who ≡ true → (x : Amount) →
     in_lots x ≤ lots_blocked (of accounts who) → in_money x ≤ money_blocked (of accounts who) → release_answer accounts who x ≡ Ok tt
-release_passes accounts who known x lots money = let there = blocked_there x (of accounts who) lots money in simp (known, there)
-  where
-    blocked_there : (x : Amount) (a : Account) → in_lots x ≤ lots_blocked a → in_money x ≤ money_blocked a → has_blocked x a ≡ true
-    blocked_there (Lots n) a lots money = le-leb _ _ lots
-    blocked_there (Money n) a lots money = le-leb _ _ money
+release_passes accounts who known (Lots n) lots money = let there = le-leb n.0 (lots_blocked (of accounts who)) lots in simp (known, there)
+release_passes accounts who known (Money n) lots money = let there = le-leb n.0 (money_blocked (of accounts who)) money in simp (known, there)
 
 -- no account comes or goes
 changed_long : {T E : Type 0} (answer : Result T E) (accounts : List Account) (who : Participant) (change : Account → Account) →
