@@ -1,5 +1,5 @@
 -- What entering and annulling orders do to the accounts.
-use Rattle.std.proofs.Common.{◌≡◌, ℕ, ◌+◌, ◌-◌, ◌≤◌, Bool, true, false, cond, not, eqb, List, [], ◌∷◌, length, Ok, sym, refl, ap, ◌∙◌, arith}
+use Rattle.std.proofs.Common.{◌≡◌, ℕ, ◌+◌, ◌-◌, ◌≤◌, true, cond, not, eqb, List, [], ◌∷◌, length, Ok, sym, refl, ap, ◌∙◌, arith}
 use Rattle.std.specs.List.{AllByRecursion}
 use Rattle.std.proofs.lemmas.List.Elements.{filter-append}
 use Rattle.std.proofs.ByRecursion.{all_kept_by, All-weaker}
@@ -18,8 +18,8 @@ use Rattle.market.specs.Orders.{total_if, number_of, owner_of, cover_for, cover_
 use Rattle.market.specs.State.{State, empty_in, waiting}
 use Rattle.market.specs.Calls.{nothing_blocked, entered, entries_of, released, annulled}
 use Rattle.market.specs.Law.{Covered}
-use Rattle.market.proofs.Totals.{total_moved, total_parted}
-use Rattle.market.proofs.QueueEntries.{moved-joined}
+use Rattle.market.proofs.Totals.{total_moved, total_none, total_parted}
+use Rattle.market.proofs.QueueEntries.{all_both, moved-joined}
 use Rattle.market.proofs.AccountFigures.{Follows, after_block, after_release, lots_blocked, money_blocked, blocked_lots_follow, blocked_money_follows, no_part, lots_held_stay, money_held_stays, release_passes, release_long}
 
 -- waiting orders of participants of the market
@@ -46,11 +46,6 @@ covered-opened accounts none p known =
 abbrev needed : (Amount → ℕ) → ℕ → List Resting → ℕ
 needed part p q = total_if (λ e. eqb (owner_of e) p) (λ e. part (cover_of e)) q
 
--- no part, own or not, is nothing
-none_for : (own : Bool) → ◌≡◌ {A = ℕ} (cond own 0 0) 0
-none_for true = refl
-none_for false = refl
-
 module _ (s : State) (o : Order) (long : length s.accounts ≡ 64)
     (accepted : block_answer s.accounts o.participant (cover_for o.side o.limit o.accepted) ≡ Ok tt)
     (p : Participant) (known : is_participant p ≡ true) where
@@ -69,7 +64,7 @@ module _ (s : State) (o : Order) (long : length s.accounts ≡ 64)
 
   -- and one that follows by nothing is the same
   same_entered : (figure : Account → ℕ) → Follows figure no_part → figure (of (entered s o).accounts p) ≡ figure (of s.accounts p)
-  same_entered figure follows = omega (arith, after_entered figure no_part follows, none_for (eqb o.participant.0 p.0))
+  same_entered figure follows = grind (arith, after_entered figure no_part follows)
 
 -- an accepted order is covered, and everybody else's orders still are
 pub covered-entered : (s : State) (o : Order) → length s.accounts ≡ 64 →
@@ -104,15 +99,12 @@ one_needed (e ∷ q) = (own, All-weaker _ _ (λ x less part. omega (arith, less 
 -- so where there is enough for all, there is enough to release each
 each_passes : (accounts : List Account) (q : List Resting) → Enough accounts q → Known q →
     AllByRecursion (λ e. release_answer accounts e.order.participant (cover_of e) ≡ Ok tt) q
-each_passes accounts q enough known = each q known (one_needed q)
-  where
-    each : (es : List Resting) → Known es → AllByRecursion (λ e. (part : Amount → ℕ) → part (cover_of e) ≤ needed part (owner_of e) q) es →
-        AllByRecursion (λ e. release_answer accounts e.order.participant (cover_of e) ≡ Ok tt) es
-    each [] known less = tt
-    each (e ∷ es) known less =
-        let who = e.order.participant in
-        let there = enough who known.0 in
-        (release_passes accounts who known.0 (cover_of e) (omega (arith, less.0 in_lots)) (omega (arith, less.0 in_money)), each es known.1 less.1)
+each_passes accounts q enough known =
+    all_both (λ e. is_participant e.order.participant ≡ true) (λ e. (part : Amount → ℕ) → part (cover_of e) ≤ needed part (owner_of e) q)
+    (λ e. release_answer accounts e.order.participant (cover_of e) ≡ Ok tt)
+    (λ e who less.
+    let there = enough e.order.participant who in
+    release_passes accounts e.order.participant who (cover_of e) (omega (arith, less in_lots)) (omega (arith, less in_money))) q known (one_needed q)
 
 -- the cover of each waiting order can be released
 pub release_accepted : (s : State) → Covered s → Known (waiting s) → AllByRecursion (λ e. release_answer s.accounts e.order.participant (cover_of e) ≡ Ok tt) (waiting s)
@@ -147,8 +139,7 @@ needed_parted part p n s =
     ∙ total_parted (λ e. cond (eqb (owner_of e) p) (part (cover_of e)) 0) (λ e. eqb (number_of e) n) (waiting s)
 
 none_needed : (p : ℕ) (q : List Resting) → needed no_part p q ≡ 0
-none_needed p [] = refl
-none_needed p (e ∷ q) = omega (arith, none_for (eqb (owner_of e) p), none_needed p q)
+none_needed p q = total_none (λ e. cond (eqb (owner_of e) p) 0 0) q (λ k d low. grind arith)
 
 -- what the annulled entries need goes from everybody's figure
 after_annulled : (figure : Account → ℕ) (part : Amount → ℕ) → Follows figure part →

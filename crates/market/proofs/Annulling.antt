@@ -2,6 +2,7 @@
 use Rattle.std.proofs.Common.{◌≡◌, ℕ, zero, suc, ◌+◌, ◌<◌, Bool, true, cond, not, eqb, ◌≢◌, List, [], ◌∷◌, ◌++◌, map, Contains, get_or, length, sym, refl, ap, subst, arith}
 use Rattle.std.specs.List.{AllByRecursion}
 use Rattle.std.proofs.lemmas.List.Elements.{filter-append}
+use Rattle.std.proofs.lemmas.List.Sums.{fold_push}
 use Rattle.std.proofs.ByRecursion.{all_kept_by, kept_by_passes}
 use Rattle.std.proofs.lemmas.Bool.{not-true, eqb-false}
 use Rattle.market.specs.declared.order.Order.{Order}
@@ -50,8 +51,7 @@ each_keeps [] s = (refl, refl, refl)
 each_keeps (o ∷ os) s = each_keeps os (annulled o.number.0 s)
 
 pub each_push : (os : List Order) (o : Order) (s : State) → annulled_each (os ++ (o ∷ [])) s ≡ annulled o.number.0 (annulled_each os s)
-each_push [] o s = refl
-each_push (x ∷ os) o s = each_push os o (annulled x.number.0 s)
+each_push os o s = fold_push (λ t x. annulled x.number.0 t) s os o
 
 -- what is left after the first of some orders is annulled is of the others
 has_rest : (o : Order) (os : List Order) (x : Order) (k : ℕ) → x.number.0 ≢ o.number.0 → k < length (o ∷ os) → get_or (o ∷ os) k x ≡ x → Contains os x

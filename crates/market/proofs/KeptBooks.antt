@@ -1,9 +1,9 @@
 -- The books are right in a session that opens, and they stay right as an order is entered and as orders are annulled.
-use Rattle.std.proofs.Common.{◌≡◌, ℕ, ◌<◌, ◌≤◌, map, Contains, Bool, true, false, cond, not, eqb, ltb, List, [], ◌∷◌, length, Ok, Err, sym, refl, ap, subst, arith}
+use Rattle.std.proofs.Common.{◌≡◌, ℕ, ◌<◌, ◌≤◌, map, Contains, true, cond, not, eqb, ltb, List, [], ◌∷◌, length, Ok, Err, sym, refl, ap, subst, arith}
 use Rattle.std.specs.List.{AllByRecursion}
 use Rattle.std.proofs.ByRecursion.{all_kept_by, All-append, All-map, All-weaker}
 use Rattle.std.proofs.lemmas.List.Elements.{All-contains, All-from_recursion}
-use Rattle.std.proofs.lemmas.Bool.{ltb-true, not-true}
+use Rattle.std.proofs.lemmas.Bool.{ltb-true, cond_both}
 use Rattle.units.specs.Answers.{given, raised}
 use Rattle.units.specs.Ranges.{is_participant, is_price, is_order_size}
 use Rattle.units.specs.declared.participant.Participant.{Participant}
@@ -65,11 +65,8 @@ books-opened accounts long none = record {
 }
 
 pub kept_opened : (accounts : List Account) → length accounts ≡ 64 → Kept (opened accounts)
-kept_opened accounts long = by (nothing_blocked accounts) refl
-  where
-    by : (none : Bool) → nothing_blocked accounts ≡ none → Kept (empty_in (cond none Gathering Closed) accounts)
-    by true e = books-opened accounts long e
-    by false e = (refl, refl)
+kept_opened accounts long =
+    cond_both (nothing_blocked accounts) Gathering Closed (λ phase. Kept (empty_in phase accounts)) (λ none. books-opened accounts long none) (λ some. (refl, refl))
 
 pub newly_opened : (accounts : List Account) → length accounts ≡ 64 → nothing_blocked accounts ≡ true → NewlyOpened (opened accounts)
 newly_opened accounts long none = record {
@@ -83,17 +80,14 @@ newly_opened accounts long none = record {
 -- what an accepted submit tells
 pub record Admitted (s : State) (who : Participant) (side : Side) (limit : Price) (lots : Lots) : Type 0 where
   pub gathering : is_gathering s.phase ≡ true
-  pub known : is_participant who ≡ true
-  pub priced : is_price limit ≡ true
-  pub sized : is_order_size lots ≡ true
-  pub room : ltb (length s.orders) most_orders ≡ true
-  pub none_in_the_way : own_in_the_way s who side limit ≡ false
+  pub range : InRange (next_order s who side limit lots)
+  pub room : length s.orders < most_orders
   pub blocked : block_answer s.accounts who (cover_for side limit lots) ≡ Ok tt
 
 -- an answer that is given where the depository accepts
 was_accepted : (answer : Done) (n m : OrderNumber) → Ok n ≡ given (raised Depository answer) m → answer ≡ Ok tt
 was_accepted (Ok u) n m e = refl
-was_accepted (Err refusal) n m e = let z : ◌≡◌ {A = ℕ} 0 1 = cc in absurd (omega arith)
+was_accepted (Err refusal) n m e = cc
 
 pub admitted : (s : State) (who : Participant) (side : Side) (limit : Price) (lots : Lots) (n : OrderNumber) → submit_answer s who side limit lots ≡ Ok n →
     Admitted s who side limit lots
@@ -106,11 +100,8 @@ admitted s who side limit lots n e =
     let free = checked_ok (not (own_in_the_way s who side limit)) OwnOrderInTheWay _ n fits.1 in
     record {
       gathering = gathers.0;
-      known = knows.0;
-      priced = prices.0;
-      sized = sizes.0;
-      room = fits.0;
-      none_in_the_way = not-true (own_in_the_way s who side limit) free.0;
+      range = (knows.0, (prices.0, sizes.0));
+      room = ltb-true (length s.orders) most_orders fits.0;
       blocked = was_accepted (block_answer s.accounts who (cover_for side limit lots)) n (next_order s who side limit lots).number free.1;
     }
 
@@ -118,8 +109,7 @@ pub books-entered : (s : State) (who : Participant) (side : Side) (limit : Price
     submit_answer s who side limit lots ≡ Ok n → Books s → Books (entered s (next_order s who side limit lots))
 books-entered s who side limit lots n e b =
     let a = admitted s who side limit lots n e in
-    let o = next_order s who side limit lots in
-    entered-books s o refl b (a.known, (a.priced, a.sized)) (ltb-true (length s.orders) 512 a.room) a.blocked
+    entered-books s (next_order s who side limit lots) refl b a.range a.room a.blocked
 
 -- ANNULLING
 

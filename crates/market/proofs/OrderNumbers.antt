@@ -2,7 +2,7 @@
 use Rattle.std.proofs.Common.{◌≡◌, ℕ, suc, ◌+◌, ◌<◌, ◌≤◌, cond, eqb, List, [], ◌∷◌, ◌++◌, Contains, length, arith}
 use Rattle.std.specs.List.{AllByRecursion}
 use Rattle.std.proofs.ByRecursion.{All-weaker}
-use Rattle.std.proofs.lemmas.Bool.{ne_eqb, cond-false}
+use Rattle.std.proofs.lemmas.Bool.Decides.{nat_tests}
 use Rattle.std.proofs.lemmas.List.Elements.{All-contains, All-from_recursion}
 use Rattle.market.specs.declared.order.Order.{Order}
 use Rattle.market.specs.declared.order.Resting.{Resting}
@@ -33,6 +33,5 @@ waiting-known s b =
 
 -- nothing is of a number above all those that occur
 pub total_above : {X : Type 0} (number figure : X → ℕ) (most n : ℕ) (xs : List X) → most < n → AllByRecursion (λ x. number x ≤ most) xs → total_if (λ x. eqb (number x) n) figure xs ≡ 0
-total_above {X} number figure most n xs above a = total_none (λ x. cond (eqb (number x) n) (figure x) 0) xs
-    (All-weaker (λ (x : X). number x ≤ most) (λ (x : X). cond (eqb (number x) n) (figure x) 0 ≡ 0)
-    (λ x h. cond-false (eqb (number x) n) (figure x) 0 (ne_eqb (number x) n (λ same. omega arith))) xs a)
+total_above number figure most n xs above a =
+    total_none (λ x. cond (eqb (number x) n) (figure x) 0) xs (λ k d low. let h = All-from_recursion (λ x. number x ≤ most) xs a k d low in grind (arith, nat_tests))

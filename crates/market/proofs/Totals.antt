@@ -1,6 +1,7 @@
 -- Figures added up over lists, and what holds of each line of two lists.
-use Rattle.std.proofs.Common.{◌≡◌, ℕ, ◌+◌, ◌≤◌, Bool, not, List, [], ◌∷◌, ◌++◌, filter, sum_by, IsPermutation, sym, refl, ◌∙◌, arith}
+use Rattle.std.proofs.Common.{◌≡◌, ℕ, ◌+◌, ◌≤◌, Bool, not, List, [], ◌∷◌, ◌++◌, filter, sum_by, All, IsPermutation, sym, refl, ◌∙◌, arith}
 use Rattle.std.specs.List.{AllByRecursion}
+use Rattle.std.proofs.lemmas.List.Elements.{All-head, All-tail}
 use Rattle.std.proofs.lemmas.List.Filters.{sum_by-filter_both}
 use Rattle.std.proofs.lemmas.List.Recursion.{is_sum_by}
 use Rattle.std.proofs.lemmas.List.Sorted.{sum_by-IsPermutation}
@@ -29,9 +30,9 @@ module _ {X : Type 0} (f : X → ℕ) where
   total_parted test xs = omega (arith, total_is, sum_by-filter_both test (λ x. not (test x)) (λ _. refl) f xs)
 
   -- figures that are 0 of each line, and figures of which one is nowhere greater
-  pub total_none : (xs : List X) → AllByRecursion (λ x. f x ≡ 0) xs → total f xs ≡ 0
+  pub total_none : (xs : List X) → All (λ x. f x ≡ 0) xs → total f xs ≡ 0
   total_none [] a = refl
-  total_none (x ∷ xs) a = omega (arith, a.0, total_none xs a.1)
+  total_none (x ∷ xs) a = omega (arith, All-head (λ y. f y ≡ 0) x xs a, total_none xs (All-tail (λ y. f y ≡ 0) x xs a))
 
   pub total_le : (g : X → ℕ) → ((x : X) → f x ≤ g x) → (xs : List X) → total f xs ≤ total g xs
   total_le g le xs = omega (arith, total_is xs, is_sum_by (total g) g refl (λ _ _. refl) xs, sum_by-le-sum_by f g xs le)

@@ -1,6 +1,7 @@
 -- What holds after every call of every run.
-use Rattle.std.specs.Prelude.{◌≡◌, ℕ, suc, ◌+◌, ◌*◌, ◌<◌, ◌≤◌, true, false, cond, ◌≢◌, List, [], ◌∷◌, length, ◌==◌, nat_eq}
-use Rattle.std.specs.List.{Contains, AllByRecursion}
+use Rattle.std.specs.Prelude.{◌≡◌, ℕ, suc, ◌+◌, ◌*◌, ◌<◌, ◌≤◌, true, false, ◌≢◌, List, [], ◌∷◌, length, ◌==◌, nat_eq}
+use Rattle.std.specs.List.{Contains, AllByRecursion, find}
+use Rattle.std.specs.Option.{option_map, unwrap_or}
 use Rattle.ordered_list.specs.Order.{in_order}
 use Rattle.units.specs.Ranges.{is_participant, is_price, is_order_size}
 use Rattle.units.specs.declared.participant.Participant.{Participant}
@@ -58,8 +59,7 @@ Covered s = (p : Participant) → is_participant p ≡ true → CoveredFor s p
 
 -- whose order n is: 0, which is nobody's number, where there is no such order
 abbrev pub owner_in : List Order → ℕ → ℕ
-owner_in [] n = 0
-owner_in (o ∷ os) n = cond (o.number.0 == n) o.participant.0 (owner_in os n)
+owner_in os n = unwrap_or (option_map (λ o. o.participant.0) (find (λ o. o.number.0 == n) os)) 0
 
 -- by its deals, what participant p sold and bought, and what it took in and paid for that
 abbrev pub sold_by : ℕ → State → ℕ
