@@ -1,9 +1,11 @@
 -- The highest, the lowest, the least and the last of figures.
 use Rattle.std.proofs.Common.{◌≡◌, ℕ, ◌≤◌, min, max, List, [], ◌∷◌, map, Some, None, Option, sym, refl, ap, ◌∙◌, arith}
-use Rattle.std.specs.Iterator.{Drains}
+use Rattle.std.specs.Iterator.{Drains, PicksByCmp}
 use Rattle.std.specs.List.{AllByRecursion, fold, reduce, last_or}
 use Rattle.std.specs.Option.{option_map, unwrap_or, UnwrapsOrElse}
+use Rattle.std.specs.Ordering.{nat_cmp, max_by_ordering}
 use Rattle.std.proofs.lemmas.Iterator.{YieldsList, items_from_drains}
+use Rattle.std.proofs.lemmas.Iterator.Consumers.{max_from_yields_List}
 use Rattle.std.proofs.ByRecursion.{All-weaker}
 use Rattle.market.specs.CutOff.{highest, lowest}
 use Rattle.pricing.specs.Candidates.{least_of}
@@ -61,9 +63,14 @@ fold_max : (n : ℕ) (ns : List ℕ) → fold max n ns ≡ max n (highest ns)
 fold_max n [] = omega arith
 fold_max n (m ∷ ms) = omega (arith, fold_max (max n m) ms)
 
-pub reduce_max : (ns : List ℕ) → unwrap_or (reduce max ns) 0 ≡ highest ns
+reduce_max : (ns : List ℕ) → unwrap_or (reduce max ns) 0 ≡ highest ns
 reduce_max [] = refl
 reduce_max (n ∷ ns) = fold_max n ns
+
+-- what `max` finds of a chain of values by their figures, 0 where there is none
+pub highest_found : {S X : Type 0} {steps : S → Option X → S → Type 0} {s : S} {f : X → ℕ} {all : List ℕ} {P : X → Type 0} (o : Option X) {x : X} →
+    PicksByCmp steps max_by_ordering (λ a b. nat_cmp (f a) (f b)) s o → YieldsList steps f s all → UnwrapsOrElse o P x → ((y : X) → P y → f y ≡ 0) → f x ≡ highest all
+highest_found {f = f} {all = all} o ran y u d = unwrapped f 0 o u d (max_from_yields_List _ o ran y) ∙ reduce_max all
 
 fold_min : (top n : ℕ) (ns : List ℕ) → min top (fold min n ns) ≡ min n (least_of top ns)
 fold_min top n [] = omega arith

@@ -1,5 +1,5 @@
 -- The next limit of a walk price downward: no waiting limit is above it, and an order at the front has it.
-use Rattle.std.proofs.Common.{◌≡◌, ℕ, ◌+◌, ◌<◌, ◌≤◌, max, true, eqb, List, [], ◌∷◌, ◌++◌, Some, None, sym, refl, ap, inl, inr, arith}
+use Rattle.std.proofs.Common.{◌≡◌, ℕ, ◌+◌, ◌<◌, ◌≤◌, max, true, eqb, List, [], ◌∷◌, ◌++◌, Some, sym, ap, inl, inr, arith}
 use Rattle.std.specs.List.{AllByRecursion}
 use Rattle.std.proofs.ByRecursion.{All-weaker}
 use Rattle.std.proofs.lemmas.Bool.{eq-eqb, or_left, cases_lt}
@@ -71,10 +71,3 @@ fronted_has p os (b ∷ bs) (bid h) =
 -- it is one of the limits
 pub next_has : (os bs : List Resting) (price : Price) → next_limit os bs ≡ Some price → has_limit price.0 (os ++ bs) ≡ true
 next_has os bs price e = fronted_has price.0 os bs (next_fronted os bs price e)
-
--- where there is none, no order is left
-pub next_none : (os bs : List Resting) → next_limit os bs ≡ None → os ++ bs ≡ []
-next_none [] [] e = refl
-next_none (o ∷ os) [] e = cc
-next_none [] (b ∷ bs) e = cc
-next_none (o ∷ os) (b ∷ bs) e = cc

@@ -1,8 +1,8 @@
 -- The walk price downward over both queues: what it has written, and what is left of it.
-use Rattle.std.proofs.Common.{◌≡◌, ℕ, zero, suc, ◌+◌, ◌-◌, ◌*◌, ◌<◌, ◌≤◌, true, false, cond, eqb, leb, ◌⊎◌, List, [], ◌∷◌, ◌++◌, map, reverse, length, take, drop, Some, None, sym, refl, ap, ◌∙◌, subst, inl, inr, append_assoc, arith}
+use Rattle.std.proofs.Common.{◌≡◌, ℕ, zero, suc, ◌+◌, ◌-◌, ◌*◌, ◌<◌, ◌≤◌, true, false, cond, eqb, leb, ◌⊎◌, List, [], ◌∷◌, ◌++◌, map, reverse, length, take, drop, Some, sym, refl, ap, ◌∙◌, subst, inl, inr, append_assoc, arith}
 use Rattle.std.specs.List.{AllByRecursion}
 use Rattle.std.proofs.ByRecursion.{All-weaker, All-append, All-drop}
-use Rattle.std.proofs.lemmas.List.{take-append-drop, append-nil, length-append, length-drop, length-reverse}
+use Rattle.std.proofs.lemmas.List.{take-append-drop, length-append, length-drop, length-reverse}
 use Rattle.std.proofs.lemmas.List.Sums.{prefix_len-le-length}
 use Rattle.std.proofs.lemmas.Bool.{eqb-true, le-leb, lt-leb}
 use Rattle.units.specs.declared.quantity.Price.{Price}
@@ -24,7 +24,7 @@ use Rattle.pricing.proofs.Reversed.{total-reverse, sorted-reverse}
 use Rattle.pricing.proofs.Fronts.{front_at, front_lots_lem, front_le, rest_beyond}
 use Rattle.pricing.proofs.Members.{any_gives, any-append_cases, any-append-left, any-append_right, any-reverse}
 use Rattle.pricing.proofs.Limits.{limits_same, limits_top}
-use Rattle.pricing.proofs.Tops.{next_top, next_has, next_none, next_some}
+use Rattle.pricing.proofs.Tops.{next_top, next_has, next_some}
 
 -- os and bs are left of the two queues, price downward, s lots of os and d lots of bids passed: the lines so far with those at
 -- the limits left are all lines, and at a limit left what is passed adds d to the demand and nothing to the supply;
@@ -99,12 +99,6 @@ walk_starts sells buys os s e q h = record {
   fewer = omega arith;
   room = omega (arith, ap length e, length-reverse sells, q.of_sells.short, q.of_buys.short);
 }
-
--- it ends with none left
-pub walk_ends : (sells buys os bs : List Resting) (lines : List Line) (s d : ℕ) → Walked sells buys os bs lines s d → next_limit os bs ≡ None → lines ≡ lines_at sells buys
-walk_ends sells buys os bs lines s d w n =
-    let e = ap (λ es. lines ++ map (line_at sells buys) (limits_of es)) (next_none os bs n) in
-    sym (append-nil lines) ∙ sym e ∙ w.rest
 
 -- what is below p of a list that the level at p stands in front of
 below_top : (p : ℕ) (es : List Resting) → Sorted Buy es → AllByRecursion (λ x. limit_of x ≤ p) es → AllByRecursion (λ x. limit_of x < p) (drop (front_orders p es) es)

@@ -1,6 +1,6 @@
 -- Lines as the summary has them, written over the front of a slice.
 use Rattle.std.proofs.Common.{◌≡◌, ℕ, ◌+◌, ◌<◌, ◌≤◌, List, [], ◌∷◌, ◌++◌, map, length, get_or, take, drop, set, sym, refl, ap, ◌∙◌, append_assoc, arith}
-use Rattle.std.proofs.lemmas.List.{drop_more, map_more, set_at, length-map, length-take-le, take_all}
+use Rattle.std.proofs.lemmas.List.{drop_more, map_more, set_at, length-map, length-take-le}
 use Rattle.std.proofs.lemmas.Bool.{le-leb, cond-true}
 use Rattle.market.specs.declared.order.Resting.{Resting}
 use Rattle.market.specs.declared.summary.SummaryLine.{SummaryLine}
@@ -20,13 +20,6 @@ written_more f xs ys zs i d l m e =
     set_at (map f (take i xs)) (get_or ys i y) (drop (i + 1) ys) y i long ∙
     sym (append_assoc (map f (take i xs)) (y ∷ []) (drop (i + 1) ys)) ∙
     ap (λ vs. vs ++ drop (i + 1) ys) (sym (map_more f xs i d l))
-
--- all lines
-pub written_all : {X Y : Type 0} (f : X → Y) (xs : List X) (ys zs : List Y) (i : ℕ) → length xs ≤ i → i ≤ length xs →
-    zs ≡ map f (take i xs) ++ drop i ys → zs ≡ map f xs ++ drop (length xs) ys
-written_all f xs ys zs i l m e =
-    let n : i ≡ length xs = omega arith in
-    e ∙ ap (λ k. map f (take k xs) ++ drop k ys) n ∙ ap (λ vs. map f vs ++ drop (length xs) ys) (take_all (length xs) xs (omega arith))
 
 -- what the walk finds is the summary
 pub summary_lines : (sells buys : List Resting) → map summary_of (lines_at sells buys) ≡ summary sells buys

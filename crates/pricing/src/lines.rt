@@ -6,7 +6,7 @@ use ordered_list::OrderedList;
 use std::marker::Model;
 
 /// The most waiting limits that two queues have.
-pub(crate) const MOST_LINES: usize = 1024;
+const MOST_LINES: usize = 1024;
 
 /// An ordered list of lines, with memory for all that two queues have.
 #[derive(Drop)]
