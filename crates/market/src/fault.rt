@@ -6,7 +6,7 @@ use depository::DepositoryFault;
 use units::RefusalCode;
 
 /// Why a session refuses.
-#[derive(Clone, Copy)]
+#[derive(Clone, Copy, Debug, PartialEq, Eq)]
 pub enum SessionFault {
     /// 11: the participant's number is not one of 1 to 64.
     NoParticipant,
@@ -57,7 +57,7 @@ impl From<SessionFault> for RefusalCode {
             SessionFault::WrongPhase => 21,
             SessionFault::SomethingBlocked => 22,
             SessionFault::SliceTooShort => 23,
-            SessionFault::Depository(fault) => return fault.code(),
+            SessionFault::Depository(fault) => return fault.into(),
         };
         RefusalCode { layer: 2, number }
     }
