@@ -1,4 +1,4 @@
-use Rattle.std.specs.Prelude.{◌-◌, Bool, ◌&&◌, List, ◌==◌}
+use Rattle.std.specs.Prelude.{◌-◌, Bool, List}
 use Rattle.depository.specs.declared.account.Account.{Account}
 use Rattle.units.specs.Worth.{worth}
 use Rattle.units.specs.declared.quantity.Lots.{Lots}
@@ -45,8 +45,3 @@ settle_after accounts seller bid share price =
     if_ok (deliver_answer accounts seller bid.who share (worth price share))
     (if_ok (release_answer (after_delivery accounts seller bid share price) bid.who (OfMoney (saved_by bid share price)))
     (after_rest accounts seller bid share price) (after_delivery accounts seller bid share price)) accounts
-
-abbrev pub same_amounts : Account → Account → Bool
-same_amounts a b =
-    (a.free_lots.0 == b.free_lots.0) && (a.blocked_lots.0 == b.blocked_lots.0
-    && (a.free_money.0 == b.free_money.0 && a.blocked_money.0 == b.blocked_money.0))

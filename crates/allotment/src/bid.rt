@@ -1,8 +1,8 @@
-ghost use Rattle.allotment.specs.Bids.{queue_order};
-ghost use Rattle.allotment.specs.QueueOrderLemmas.{lawful};
+ghost use Rattle.std.specs.Prelude.{◌≡◌};
+ghost use Rattle.units.specs.Worth.{worth};
 
 use ordered_list::Ranked;
-use units::{Lots, Participant, Price};
+use units::{Lots, Money, Participant, Price};
 
 /// A buy order of the level.
 #[derive(Clone, Copy)]
@@ -13,8 +13,20 @@ pub(crate) struct Bid {
     pub(crate) lots: Lots,
 }
 
+impl Bid {
+    /// The money that a bid blocks.
+    pub(crate) fn cover(self) -> Money
+        ensures { result ≡ worth self.limit self.lots }
+    {
+        self.limit.times(self.lots)
+    }
+}
+
 // the higher limit goes first, and of one limit the lower number
 impl Ranked for Bid {
+    ghost use Rattle.allotment.specs.Bids.{queue_order};
+    ghost use Rattle.allotment.specs.QueueOrderLemmas.{lawful};
+
     ghost after = { queue_order };
 
     ghost apart = { lawful.apart };
@@ -24,10 +36,6 @@ impl Ranked for Bid {
     ghost alike = { lawful.alike };
 
     fn ranks_after(&self, other: &Bid) -> bool {
-        if self.limit.0 == other.limit.0 {
-            self.number > other.number
-        } else {
-            self.limit.0 < other.limit.0
-        }
+        (other.limit, self.number) > (self.limit, other.number)
     }
 }

@@ -1,6 +1,7 @@
+use super::award::Award;
 use super::bid::Bid;
 use super::fault::AllotmentFault;
-use super::steps::{cover, left_over, queue, saved, settle};
+use super::queue::queue;
 use depository::{Account, AccountBook, Amount, BackOffice, Depository};
 use sharing::{Share, SharingRule};
 use units::{Lots, Money, Participant, Price};
@@ -15,13 +16,14 @@ const LIMIT: Price = Price(103);
 
 /// The whole allotment by one rule over one depository. Answers the four participants' balances at the end.
 pub(crate) fn carry_out<R: SharingRule, D: BackOffice>(
-    rt: &HostRuntime,
-    title: &str,
+    rt: &impl Print,
+    rule_name: &str,
+    kind: &str,
     rule: &R,
     depository: &mut D,
 ) -> Result<[Account; 4], AllotmentFault> {
     println!(rt; "")?;
-    println!(rt; "{title}")?;
+    println!(rt; "{rule_name}, {kind} depository")?;
     pay_in(rt, depository, SELLER, Amount::Lots(OFFERED))?;
     pay_in(rt, depository, Participant(2), Amount::Money(Money(6_000)))?;
     pay_in(rt, depository, Participant(3), Amount::Money(Money(4_000)))?;
@@ -31,15 +33,16 @@ pub(crate) fn carry_out<R: SharingRule, D: BackOffice>(
     for bid in level {
         block(rt, depository, bid)?;
     }
-    let shares = share(rt, rule, level)?;
-    for i in 0..3 {
-        deal(rt, depository, level[i], shares[i].share)?;
+    let lines = share(rt, rule, level)?;
+    for (bid, line) in level.into_iter().zip(lines) {
+        let share = line.share;
+        deal(rt, depository, Award { bid, share })?;
     }
     balances(rt, depository)
 }
 
 fn pay_in<D: BackOffice>(
-    rt: &HostRuntime,
+    rt: &impl Print,
     depository: &mut D,
     who: Participant,
     what: Amount,
@@ -53,45 +56,37 @@ fn pay_in<D: BackOffice>(
     Ok(())
 }
 
-fn offer<D: Depository>(rt: &HostRuntime, depository: &mut D) -> Result<(), AllotmentFault> {
+fn offer<D: Depository>(rt: &impl Print, depository: &mut D) -> Result<(), AllotmentFault> {
     depository.block(SELLER, Amount::Lots(OFFERED))?;
     println!(rt; "  1 offers 33 lots: 33 lots blocked")?;
     Ok(())
 }
 
+fn bid(number: u16, who: u16, lots: u64) -> Bid {
+    Bid {
+        number,
+        who: Participant(who),
+        limit: LIMIT,
+        lots: Lots(lots),
+    }
+}
+
 /// The level's bids in queue order, whatever order they are handed in.
 fn level() -> Result<[Bid; 3], AllotmentFault> {
-    let first = Bid {
-        number: 1,
-        who: Participant(2),
-        limit: LIMIT,
-        lots: Lots(50),
-    };
-    let second = Bid {
-        number: 2,
-        who: Participant(3),
-        limit: LIMIT,
-        lots: Lots(30),
-    };
-    let third = Bid {
-        number: 3,
-        who: Participant(4),
-        limit: LIMIT,
-        lots: Lots(20),
-    };
-    let mut memory = [first; 3];
-    let len = queue(&mut memory, 0, third)?;
-    let len = queue(&mut memory, len, first)?;
-    queue(&mut memory, len, second)?;
+    let mut memory = [bid(0, 0, 0); 3];
+    let mut len = 0;
+    for bid in [bid(3, 4, 20), bid(1, 2, 50), bid(2, 3, 30)] {
+        len = queue(&mut memory, len, bid)?;
+    }
     Ok(memory)
 }
 
 fn block<D: Depository>(
-    rt: &HostRuntime,
+    rt: &impl Print,
     depository: &mut D,
     bid: Bid,
 ) -> Result<(), AllotmentFault> {
-    let cover = cover(bid);
+    let cover = bid.cover();
     depository.block(bid.who, Amount::Money(cover))?;
     let Participant(who) = bid.who;
     let Lots(lots) = bid.lots;
@@ -110,31 +105,28 @@ fn line(bid: Bid) -> Share {
 }
 
 fn share<R: SharingRule>(
-    rt: &HostRuntime,
+    rt: &impl Print,
     rule: &R,
     level: [Bid; 3],
 ) -> Result<[Share; 3], AllotmentFault> {
-    let mut shares = [line(level[0]), line(level[1]), line(level[2])];
-    rule.share(&mut shares, OFFERED)?;
-    let a = shares[0].share.0;
-    let b = shares[1].share.0;
-    let c = shares[2].share.0;
+    let mut lines = level.map(line);
+    rule.share(&mut lines, OFFERED)?;
+    let [a, b, c] = lines.map(|line| line.share.0);
     println!(rt; "  33 lots are shared out: {a} of 50, {b} of 30, {c} of 20")?;
-    Ok(shares)
+    Ok(lines)
 }
 
 fn deal<D: Depository>(
-    rt: &HostRuntime,
+    rt: &impl Print,
     depository: &mut D,
-    bid: Bid,
-    share: Lots,
+    award: Award,
 ) -> Result<(), AllotmentFault> {
-    settle(depository, SELLER, bid, share, PRICE)?;
-    let Participant(who) = bid.who;
-    let Lots(lots) = share;
-    let Money(money) = PRICE.times(share);
-    let Money(saving) = saved(bid, share, PRICE);
-    let Money(rest) = left_over(bid, share);
+    award.settle(depository, SELLER, PRICE)?;
+    let Participant(who) = award.bid.who;
+    let Lots(lots) = award.share;
+    let Money(money) = PRICE.times(award.share);
+    let Money(saving) = award.saved(PRICE);
+    let Money(rest) = award.left_over();
     println!(rt;
         "  {who} gets {lots} lots from 1 for {money}; {saving} saved and {rest} not needed are released"
     )?;
@@ -143,22 +135,25 @@ fn deal<D: Depository>(
 
 /// Prints the balances of participants 1 to 4, and answers them.
 fn balances<D: Depository>(
-    rt: &HostRuntime,
+    rt: &impl Print,
     depository: &D,
 ) -> Result<[Account; 4], AllotmentFault> {
     println!(rt; "  participant  free lots  blocked lots  free money  blocked money")?;
-    let mut all = [Account::EMPTY; 4];
-    for i in 0..4 {
-        let who = i as u16 + 1;
-        let account = depository.balances(Participant(who))?;
-        let free_lots = account.free_lots.0;
-        let blocked_lots = account.blocked_lots.0;
-        let free_money = account.free_money.0;
-        let blocked_money = account.blocked_money.0;
-        println!(rt;
-            "  {who:>11}  {free_lots:>9}  {blocked_lots:>12}  {free_money:>10}  {blocked_money:>13}"
-        )?;
-        all[i] = account;
-    }
-    Ok(all)
+    [1, 2, 3, 4].try_map(|who| balance(rt, depository, who))
+}
+
+fn balance<D: Depository>(
+    rt: &impl Print,
+    depository: &D,
+    who: u16,
+) -> Result<Account, AllotmentFault> {
+    let account = depository.balances(Participant(who))?;
+    let Lots(free_lots) = account.free_lots;
+    let Lots(blocked_lots) = account.blocked_lots;
+    let Money(free_money) = account.free_money;
+    let Money(blocked_money) = account.blocked_money;
+    println!(rt;
+        "  {who:>11}  {free_lots:>9}  {blocked_lots:>12}  {free_money:>10}  {blocked_money:>13}"
+    )?;
+    Ok(account)
 }

@@ -1,7 +1,8 @@
 ghost use Rattle.ordered_list.specs.Keys.{upward, downward, then_by};
-ghost use Rattle.ordered_list.proofs.Keys.{upward-lawful, downward-lawful, then_lawful};
+ghost use Rattle.ordered_list.proofs.Keys.{down_up-lawful};
 
 use ordered_list::{ListFault, OrderedList, Ranked};
+use units::RefusalCode;
 
 #[derive(Clone, Copy)]
 struct Line {
@@ -13,18 +14,14 @@ struct Line {
 impl Ranked for Line {
     ghost after = { then_by (downward (λ l. l.price)) (upward (λ l. l.number)) };
 
-    ghost apart = { (then_lawful (downward (λ l. l.price)) (upward (λ l. l.number)) (downward-lawful (λ l. l.price)) (upward-lawful (λ l. l.number))).apart };
+    ghost apart = { (down_up-lawful (λ l. l.price) (λ l. l.number)).apart };
 
-    ghost chain = { (then_lawful (downward (λ l. l.price)) (upward (λ l. l.number)) (downward-lawful (λ l. l.price)) (upward-lawful (λ l. l.number))).chain };
+    ghost chain = { (down_up-lawful (λ l. l.price) (λ l. l.number)).chain };
 
-    ghost alike = { (then_lawful (downward (λ l. l.price)) (upward (λ l. l.number)) (downward-lawful (λ l. l.price)) (upward-lawful (λ l. l.number))).alike };
+    ghost alike = { (down_up-lawful (λ l. l.price) (λ l. l.number)).alike };
 
     fn ranks_after(&self, other: &Line) -> bool {
-        if self.price == other.price {
-            self.number > other.number
-        } else {
-            self.price < other.price
-        }
+        (other.price, self.number) > (self.price, other.number)
     }
 }
 
@@ -32,40 +29,37 @@ fn entry(price: u32, number: u32) -> Line {
     Line { price, number }
 }
 
-/// The position, or 50 and more: the refusal's number.
-fn position(answer: Result<usize, ListFault>) -> usize {
+/// What a call answered, or 50 and more: the refusal's number.
+fn or_number<T: From<u8>>(answer: Result<T, ListFault>) -> T {
     match answer {
-        Ok(at) => at,
-        Err(fault) => usize::from(fault.code().number),
+        Ok(x) => x,
+        Err(fault) => T::from(RefusalCode::from(fault).number),
     }
 }
 
-/// The line's number, or 52: the refusal's number.
-fn removed(answer: Result<Line, ListFault>) -> u32 {
-    match answer {
-        Ok(line) => line.number,
-        Err(fault) => u32::from(fault.code().number),
-    }
+/// The position that a line gets.
+fn position(list: &mut OrderedList<Line>, line: Line) -> usize {
+    or_number(list.insert(line))
+}
+
+/// The number of the line that stood at a position.
+fn removed(list: &mut OrderedList<Line>, at: usize) -> u32 {
+    or_number(list.remove(at).map(|line| line.number))
 }
 
 /// The numbers of four lines.
 fn numbers(memory: [Line; 4]) -> [u32; 4] {
-    [
-        memory[0].number,
-        memory[1].number,
-        memory[2].number,
-        memory[3].number,
-    ]
+    memory.map(|line| line.number)
 }
 
 #[test]
 fn inserts_in_order(rt: HostRuntime) {
     let mut memory = [entry(0, 0); 4];
     let mut list = OrderedList::over(&mut memory, 0);
-    let first = position(list.insert(entry(100, 1)));
-    let second = position(list.insert(entry(102, 2)));
-    let third = position(list.insert(entry(100, 3)));
-    let fourth = position(list.insert(entry(102, 4)));
+    let first = position(&mut list, entry(100, 1));
+    let second = position(&mut list, entry(102, 2));
+    let third = position(&mut list, entry(100, 3));
+    let fourth = position(&mut list, entry(102, 4));
     let len = list.done();
     assert_eq!(rt; [first, second, third, fourth, len], [0, 0, 2, 1, 4]);
     assert_eq!(rt; numbers(memory), [2, 4, 1, 3]);
@@ -75,7 +69,7 @@ fn inserts_in_order(rt: HostRuntime) {
 fn inserts_behind_equals(rt: HostRuntime) {
     let mut memory = [entry(101, 5), entry(100, 7), entry(99, 1), entry(0, 0)];
     let mut list = OrderedList::over(&mut memory, 3);
-    let at = position(list.insert(entry(100, 7)));
+    let at = position(&mut list, entry(100, 7));
     let len = list.done();
     assert_eq!(rt; [at, len], [2, 4]);
     assert_eq!(rt; numbers(memory), [5, 7, 7, 1]);
@@ -85,7 +79,7 @@ fn inserts_behind_equals(rt: HostRuntime) {
 fn full_memory_stays(rt: HostRuntime) {
     let mut memory = [entry(104, 4), entry(103, 3), entry(102, 2), entry(101, 1)];
     let mut list = OrderedList::over(&mut memory, 4);
-    let at = position(list.insert(entry(105, 5)));
+    let at = position(&mut list, entry(105, 5));
     let len = list.done();
     assert_eq!(rt; [at, len], [51, 4]);
     assert_eq!(rt; numbers(memory), [4, 3, 2, 1]);
@@ -95,9 +89,9 @@ fn full_memory_stays(rt: HostRuntime) {
 fn removes_what_is_there(rt: HostRuntime) {
     let mut memory = [entry(103, 1), entry(102, 2), entry(101, 3), entry(9, 9)];
     let mut list = OrderedList::over(&mut memory, 3);
-    let past = removed(list.remove(3));
-    let last = removed(list.remove(2));
-    let first = removed(list.remove(0));
+    let past = removed(&mut list, 3);
+    let last = removed(&mut list, 2);
+    let first = removed(&mut list, 0);
     let len = list.done();
     assert_eq!(rt; [past, last, first], [52, 3, 1]);
     assert_eq!(rt; len, 1);
@@ -109,7 +103,7 @@ fn length_past_the_end_means_all(rt: HostRuntime) {
     let mut memory = [entry(104, 4), entry(103, 3), entry(102, 2), entry(101, 1)];
     let mut list = OrderedList::over(&mut memory, 9);
     let held = list.len();
-    let last = removed(list.remove(3));
+    let last = removed(&mut list, 3);
     let len = list.done();
     assert_eq!(rt; [held, len], [4, 3]);
     assert_eq!(rt; last, 1);

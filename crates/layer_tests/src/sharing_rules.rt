@@ -1,6 +1,6 @@
 use sharing::{ByTime, ProRata, Share, SharingFault, SharingRule};
 use std::process::Abort;
-use units::Lots;
+use units::{Lots, RefusalCode};
 
 /// A line on which a share of 7 lots stands from before.
 fn line(lots: u64) -> Share {
@@ -14,7 +14,7 @@ fn line(lots: u64) -> Share {
 fn number(answer: Result<(), SharingFault>) -> u8 {
     match answer {
         Ok(()) => 0,
-        Err(fault) => fault.code().number,
+        Err(fault) => RefusalCode::from(fault).number,
     }
 }
 
@@ -25,16 +25,16 @@ fn one_line<R: SharingRule>(rule: &R, lots: u64, total: u64) -> u8 {
 
 /// The shares of three lines after a rule's call.
 fn three_lines<R: SharingRule>(rule: &R, lots: [u64; 3], total: u64) -> [u64; 3] {
-    let mut lines = [line(lots[0]), line(lots[1]), line(lots[2])];
+    let mut lines = lots.map(line);
     let _ = rule.share(&mut lines, Lots(total));
-    [lines[0].share.0, lines[1].share.0, lines[2].share.0]
+    lines.map(|line| line.share.0)
 }
 
 /// 41 over 512 lines, 42 over 1,000,000 lots, 43 above the sum; not at these.
 fn refuses_past_the_edges<R: SharingRule>(rt: &impl Abort, rule: &R) {
     let mut lines = [line(1); 513];
     assert_eq!(rt; number(rule.share(&mut lines, Lots(1))), 41);
-    assert_eq!(rt; number(rule.share(&mut lines[0..512], Lots(512))), 0);
+    assert_eq!(rt; number(rule.share(&mut lines[..512], Lots(512))), 0);
     assert_eq!(rt;
         [one_line(rule, 1_000_000, 1), one_line(rule, 1_000_001, 1)],
         [0, 42]
@@ -63,7 +63,7 @@ fn edges_pro_rata(rt: HostRuntime) {
 fn the_lowest_number_comes_first(rt: HostRuntime) {
     let mut lines = [line(1_000_001); 513];
     assert_eq!(rt; number(ProRata.share(&mut lines, Lots(u64::MAX))), 41);
-    assert_eq!(rt; number(ProRata.share(&mut lines[0..2], Lots(u64::MAX))), 42);
+    assert_eq!(rt; number(ProRata.share(&mut lines[..2], Lots(u64::MAX))), 42);
 }
 
 #[test]

@@ -52,3 +52,7 @@ then_lawful f g l m = lawful_from (then_by f g)
     (λ r. not_after_chain g m x y z
     (p.1 (not_after_chain f l y z x q.0 r))
     (q.1 (not_after_chain f l z x y r p.0))))
+
+-- by one key downward, and of one such key by another upward
+pub down_up-lawful : {X : Type 0} (first second : X → ℕ) → Lawful (then_by (downward first) (upward second))
+down_up-lawful first second = then_lawful (downward first) (upward second) (downward-lawful first) (upward-lawful second)
