@@ -109,7 +109,7 @@ NumberedFrom n (o ∷ os) = (o.number.0 ≡ n) × NumberedFrom (suc n) os
 abbrev pub InRange : Order → Type 0
 InRange o = (is_participant o.participant ≡ true) × ((is_price o.limit ≡ true) × (is_order_size o.accepted ≡ true))
 
--- no two entries are of one order
+-- No two entries are of one order. Not the library's IsDistinct of a test on them: that the numbers differ is what follows of each
 abbrev pub Distinct : List Resting → Type 0
 Distinct [] = Unit {0}
 Distinct (e ∷ es) = AllByRecursion (λ x. number_of x ≢ number_of e) es × Distinct es
