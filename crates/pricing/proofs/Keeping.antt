@@ -1,7 +1,9 @@
 -- What of a list passes a test.
 use Rattle.std.proofs.Common.{◌≡◌, ℕ, Bool, true, cond, ◌&&◌, eqb, List, [], ◌∷◌, map, filter, sym, refl, ap, ◌∙◌, inl, inr}
 use Rattle.std.specs.List.{AllByRecursion, list_all}
-use Rattle.std.proofs.lemmas.Bool.{cases_Bool, eqb-true, eqb-false, and_from, and_parts}
+use Rattle.std.proofs.lemmas.List.Elements.{All-from_recursion, recursion_from_All}
+use Rattle.std.proofs.lemmas.List.Sums.{AllPass-from_list_all, list_all-from_AllPass}
+use Rattle.std.proofs.lemmas.Bool.{cases_Bool, eqb-true, eqb-false}
 
 -- two tests that agree on each element
 pub kept_same : {X : Type 0} (t u : X → Bool) (xs : List X) → AllByRecursion (λ x. t x ≡ u x) xs → filter t xs ≡ filter u xs
@@ -26,12 +28,10 @@ kept_map test f (x ∷ xs) = elim (cases_Bool (test (f x))) [
 
 -- every one
 pub every_from : {X : Type 0} (test : X → Bool) (xs : List X) → AllByRecursion (λ x. test x ≡ true) xs → list_all test xs ≡ true
-every_from test [] a = refl
-every_from test (x ∷ xs) a = and_from (test x) (list_all test xs) a.0 (every_from test xs a.1)
+every_from test xs a = list_all-from_AllPass test xs (All-from_recursion (λ x. test x ≡ true) xs a)
 
 pub all-every : {X : Type 0} (test : X → Bool) (xs : List X) → list_all test xs ≡ true → AllByRecursion (λ x. test x ≡ true) xs
-all-every test [] e = tt
-all-every test (x ∷ xs) e = let p = and_parts (test x) (list_all test xs) e in (p.0, all-every test xs p.1)
+all-every test xs e = recursion_from_All (λ x. test x ≡ true) xs (AllPass-from_list_all test xs e)
 
 -- Those with the best figure. `up_to x m` says that x is no better than m; no figure is better than `best`, and what no figure
 -- is better than, `best` is not better than either.
