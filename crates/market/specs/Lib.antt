@@ -7,4 +7,5 @@ pub mod Queues
 pub mod Refusals
 pub mod Runs
 pub mod State
+pub mod Texts
 pub mod Worked

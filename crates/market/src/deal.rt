@@ -1,6 +1,7 @@
 ghost use Rattle.std.specs.Prelude.{◌≡◌};
 
 use super::order::{OrderNumber, Resting};
+use std::fmt;
 use units::{Lots, Price};
 
 /// A line of the deal list.
@@ -30,5 +31,37 @@ impl From<Resting> for Cancellation {
             order: entry.order.number,
             lots: entry.lots,
         }
+    }
+}
+
+/// The line of a deal: its mark, and its fields in decimal.
+impl fmt::Display for Deal {
+    ghost use Rattle.std.specs.Prelude.{Some};
+    ghost use Rattle.std.specs.List.{join_with_byte};
+    ghost use Rattle.market.specs.Texts.{deal_fields};
+
+    ghost output = { λ deal. Some (join_with_byte 32 (deal_fields deal)) };
+
+    fn fmt<W: fmt::Write>(&self, f: &mut fmt::Formatter<W>) -> fmt::Result {
+        let sell = self.sell.0;
+        let buy = self.buy.0;
+        let price = self.price.0;
+        let lots = self.lots.0;
+        write!(f, "D {sell} {buy} {price} {lots}")
+    }
+}
+
+/// The line of a cancellation: its mark, and its fields in decimal.
+impl fmt::Display for Cancellation {
+    ghost use Rattle.std.specs.Prelude.{Some};
+    ghost use Rattle.std.specs.List.{join_with_byte};
+    ghost use Rattle.market.specs.Texts.{cancellation_fields};
+
+    ghost output = { λ line. Some (join_with_byte 32 (cancellation_fields line)) };
+
+    fn fmt<W: fmt::Write>(&self, f: &mut fmt::Formatter<W>) -> fmt::Result {
+        let order = self.order.0;
+        let lots = self.lots.0;
+        write!(f, "C {order} {lots}")
     }
 }

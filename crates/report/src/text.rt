@@ -1,21 +1,21 @@
-ghost use Rattle.std.specs.Prelude.{◌≡◌, ◌++◌, IfOk, string_bytes, OnOk};
+ghost use Rattle.std.specs.Prelude.{◌≡◌, ◌++◌, IfOk, OnOk, string_bytes};
 ghost use Rattle.std.specs.List.{flat_map};
 ghost use Rattle.tape.specs.Hosts.{code_of};
-ghost use Rattle.report.specs.Lines.{refusal_line, text_of};
+ghost use Rattle.report.specs.Lines.{line_with, refusal_line, text_of, Prints};
 
-use super::line::ResultLine;
 use std::alloc::{AllocError, Global};
-use tape::{HostFault, Played, TapeAnswer};
-use units::RefusalCode;
+use std::fmt::Display;
+use tape::{HostFault, Played};
 
 /// The lines of a run: answers, then deals, then cancellations.
+#[tactic(auto, using(std::proofs::Common::append_assoc))]
 pub fn lines_of(heap: Global, played: &Played) -> Result<String, AllocError>
     ensures { IfOk result (λ t. string_bytes t ≡ text_of played.now) }
 {
     let mut text = String::new(heap);
-    append(heap, &mut text, played.answers())?;
-    append(heap, &mut text, played.deals())?;
-    append(heap, &mut text, played.cancellations())?;
+    append(&mut text, played.answers())?;
+    append(&mut text, played.deals())?;
+    append(&mut text, played.cancellations())?;
     Ok(text)
 }
 
@@ -23,23 +23,16 @@ pub fn lines_of(heap: Global, played: &Played) -> Result<String, AllocError>
 pub fn refusal_line(heap: Global, fault: HostFault) -> Result<String, AllocError>
     ensures { IfOk result (λ t. string_bytes t ≡ refusal_line (code_of fault)) }
 {
-    let RefusalCode { layer, number } = fault.code();
-    let answer = TapeAnswer {
-        offset: 0,
-        layer,
-        number,
-        order: 0,
-        figure: 0,
-    };
-    answer.line(heap)
+    format!(in heap; "{fault}\n")
 }
 
 /// Writes a line for each behind the text.
-fn append<T: ResultLine>(heap: Global, text: &mut String, lines: &[T]) -> Result<(), AllocError>
-    ensures { OnOk result (string_bytes text.new ≡ string_bytes text.old ++ flat_map T.ResultLine.text lines.now) }
+fn append<T: Display>(text: &mut String, lines: &[T]) -> Result<(), AllocError>
+    requires { Prints T.Display.output }
+    ensures { OnOk result (string_bytes text.new ≡ string_bytes text.old ++ flat_map (line_with T.Display.output) lines.now) }
 {
     for line in lines {
-        text.push_str(line.line(heap)?.as_str())?;
+        writeln!(text, "{line}")?;
     }
     Ok(())
 }

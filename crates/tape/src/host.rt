@@ -1,6 +1,9 @@
-ghost use Rattle.std.specs.Prelude.{◌≡◌};
-ghost use Rattle.tape.specs.Hosts.{code_of};
+ghost use Rattle.std.specs.Prelude.{◌≡◌, Some};
+ghost use Rattle.std.specs.List.{join_with_byte};
+ghost use Rattle.tape.specs.Hosts.{code_of, host_fields};
 
+use super::line::Line;
+use std::fmt;
 use units::RefusalCode;
 
 /// Why a tape is not run at all.
@@ -21,5 +24,14 @@ impl From<HostFault> for RefusalCode {
                 number: 61,
             },
         }
+    }
+}
+
+/// The one line of a tape that is not run: an answer's, at offset 0.
+impl fmt::Display for HostFault {
+    ghost output = { λ fault. Some (join_with_byte 32 (host_fields fault)) };
+
+    fn fmt<W: fmt::Write>(&self, f: &mut fmt::Formatter<W>) -> fmt::Result {
+        Line::refused(0, (*self).into()).fmt(f)
     }
 }

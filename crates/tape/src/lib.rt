@@ -5,6 +5,7 @@
 mod answer;
 mod desk;
 mod host;
+mod line;
 mod played;
 mod playing;
 mod stage;

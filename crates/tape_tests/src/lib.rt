@@ -14,41 +14,30 @@ mod tests {
     use std::test::Fail;
     use tape::play;
 
-    fn run(rt: &(impl Abort + AllocGlobal), case: Case) -> Result<(), Fail> {
-        let text = match play(case.tape) {
-            Ok(played) => lines_of(rt.alloc(), &played)?,
-            Err(fault) => refusal_line(rt.alloc(), fault)?,
-        };
-        assert!(rt; text.as_str() == case.lines, "{}", case.name);
+    fn run(rt: &(impl Abort + AllocGlobal), cases: &[Case]) -> Result<(), Fail> {
+        for case in cases {
+            let text = match play(case.tape) {
+                Ok(played) => lines_of(rt.alloc(), &played)?,
+                Err(fault) => refusal_line(rt.alloc(), fault)?,
+            };
+            assert!(rt; text.as_str() == case.lines, "{}", case.name);
+        }
         Ok(())
     }
 
     #[test]
     fn refused_commands(rt: HostRuntime) -> Result<(), Fail> {
-        run(&rt, cases::BAD_OPERANDS)?;
-        run(&rt, cases::FREE_TOO_SMALL)?;
-        run(&rt, cases::WITHDRAWALS)?;
-        run(&rt, cases::WRONG_PHASES)?;
-        run(&rt, cases::STRUCK_ALLOWS_LITTLE)?;
-        Ok(())
+        run(&rt, &cases::REFUSED_COMMANDS)
     }
 
     #[test]
     fn ends_of_tapes(rt: HostRuntime) -> Result<(), Fail> {
-        run(&rt, cases::EMPTY)?;
-        run(&rt, cases::NEVER_OPENED)?;
-        run(&rt, cases::CUT_SHORT)?;
-        run(&rt, cases::UNKNOWN_COMMAND)?;
-        run(&rt, cases::ENDS_WHILE_STRUCK)?;
-        Ok(())
+        run(&rt, &cases::ENDS_OF_TAPES)
     }
 
     #[test]
     fn strikes(rt: HostRuntime) -> Result<(), Fail> {
-        run(&rt, cases::ABANDONED_UNCROSSED)?;
-        run(&rt, cases::ABANDONED_WITHOUT_ORDERS)?;
-        run(&rt, cases::CUT_OFFS)?;
-        Ok(())
+        run(&rt, &cases::STRIKES)
     }
 
     #[test]
