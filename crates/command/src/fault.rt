@@ -56,8 +56,8 @@ impl From<TapeFault> for RefusalCode {
             TapeFault::Unknown => 1,
             TapeFault::CutShort => 2,
             TapeFault::NoSuchRule => 3,
-            TapeFault::Session(lower) => return lower.code(),
-            TapeFault::Depository(lower) => return lower.code(),
+            TapeFault::Session(lower) => return lower.into(),
+            TapeFault::Depository(lower) => return lower.into(),
         };
         RefusalCode { layer: 1, number }
     }

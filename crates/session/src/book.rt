@@ -8,6 +8,7 @@ ghost use Rattle.session.specs.Lists.{first_with, without_first};
 use super::queue::Queue;
 use arrayvec::ArrayVec;
 use market::{Cancellation, Deal, Order, OrderNumber, Resting};
+use pricing::Waiting;
 use units::{Lots, Participant, Side};
 
 /// What a session has written down: order records, the two queues, deals and cancellations. None of the lists can overflow:
@@ -80,6 +81,17 @@ impl Book {
         match side {
             Side::Sell => self.sells.entries(),
             Side::Buy => self.buys.entries(),
+        }
+    }
+
+    /// Both queues.
+    pub(crate) fn both_queues(&self) -> Waiting<'_>
+        ensures sells { result.sells.now ≡ self.now.sells }
+        ensures buys { result.buys.now ≡ self.now.buys }
+    {
+        Waiting {
+            sells: self.sells.entries(),
+            buys: self.buys.entries(),
         }
     }
 
