@@ -56,7 +56,7 @@ trading_books s k t = books_in is_trading refl s.phase s k t
 pub gathering-books : (s : State) → Kept s → is_gathering s.phase ≡ true → Books s
 gathering-books s k t = books_in is_gathering refl s.phase s k t
 
-struck_books : (s : State) → Kept s → is_struck s.phase ≡ true → Books s
+pub struck_books : (s : State) → Kept s → is_struck s.phase ≡ true → Books s
 struck_books s k t = books_in is_struck refl s.phase s k t
 
 -- while orders can be withdrawn, right books are all that is kept
@@ -69,21 +69,21 @@ books-all s b = books_each s.orders s b
 
 -- CALL BY CALL
 
-kept_submit : (s : State) (who : Participant) (side : Side) (limit : Price) (lots : Lots) → Kept s → Kept (submit_after s who side limit lots)
+pub kept_submit : (s : State) (who : Participant) (side : Side) (limit : Price) (lots : Lots) → Kept s → Kept (submit_after s who side limit lots)
 kept_submit s who side limit lots k = if_ok_lem (submit_answer s who side limit lots) (entered s (next_order s who side limit lots)) s Kept
     (λ n e.
     let gathers = (admitted s who side limit lots n e).gathering in
     let books = books-entered s who side limit lots n e (gathering-books s k gathers) in
     trading_kept (entered s (next_order s who side limit lots)) books (gathering_trades s.phase gathers)) k
 
-kept_withdraw : (s : State) (who : Participant) (n : OrderNumber) → Kept s → Kept (withdraw_after s who n)
+pub kept_withdraw : (s : State) (who : Participant) (n : OrderNumber) → Kept s → Kept (withdraw_after s who n)
 kept_withdraw s who n k = if_ok_lem (withdraw_answer s who n) (annulled n.0 s) s Kept
     (λ lots e.
     let trades = (checked_ok (is_trading s.phase) WrongPhase _ lots (sym e)).0 in
     trading_kept (annulled n.0 s) (books-annulled n.0 s (trading_books s k trades)) trades) k
 
 -- a cut-off that is found is at its best, and where there is none, Gathering goes on with nothing waiting
-kept_strike : (s : State) → Kept s → Kept (strike_after s)
+pub kept_strike : (s : State) → Kept s → Kept (strike_after s)
 kept_strike s k = if_ok_lem (strike_answer s) (struck_by (cut_off_found s.sells s.buys) s) s Kept
     (λ answer e.
     let gathers = (checked_ok (is_gathering s.phase) WrongPhase _ answer (sym e)).0 in
