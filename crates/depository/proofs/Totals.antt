@@ -1,7 +1,10 @@
 -- A figure added up over all accounts, and what a change of one account does to it.
 use Rattle.std.proofs.Common.{◌≡◌, ℕ, zero, suc, ◌+◌, ◌-◌, ◌<◌, ◌≤◌, true, List, [], ◌∷◌, length, get_or, drop, set, Ok, refl, ap, ◌∙◌, arith}
-use Rattle.std.proofs.lemmas.Bool.{and_parts, leb-true}
+use Rattle.std.proofs.lemmas.Bool.{leb-true}
+use Rattle.std.proofs.lemmas.Bool.Decides.{nat_tests}
 use Rattle.std.proofs.lemmas.List.{at_drop_more}
+use Rattle.std.proofs.lemmas.List.Recursion.{is_sum_by}
+use Rattle.std.proofs.lemmas.List.Sums.{sum_by-set}
 use Rattle.units.specs.Ranges.{is_participant}
 use Rattle.units.proofs.Checks.{checked_ok, ok_value}
 use Rattle.units.specs.declared.participant.Participant.{Participant}
@@ -21,9 +24,7 @@ one_in_all figure none (a ∷ xs) (suc i) = omega (arith, one_in_all figure none
 
 -- the figure in all changes by as much as that of the one account
 pub in_all-set : (figure : Account → ℕ) (xs : List Account) (i : ℕ) (b : Account) → i < length xs → in_all figure (set xs i b) + figure (get_or xs i empty) ≡ in_all figure xs + figure b
-in_all-set figure [] i b h = absurd (omega arith)
-in_all-set figure (a ∷ xs) zero b h = omega arith
-in_all-set figure (a ∷ xs) (suc i) b h = omega (arith, in_all-set figure xs i b (omega arith))
+in_all-set figure xs i b h = let is = is_sum_by (in_all figure) figure refl (λ _ _. refl) in omega (arith, is xs, is (set xs i b), sum_by-set figure xs i b empty h)
 
 -- one participant's holdings are within the bounds of all
 pub within_one : (xs : List Account) → Within xs → (p : Participant) (x : Amount) → held_of x (of xs p) ≤ most_of x
@@ -32,11 +33,7 @@ within_one xs w p (Money n) = omega (arith, one_in_all money_held refl xs (p.0 -
 
 -- a participant's number is a place among the accounts
 pub place_known : (xs : List Account) → length xs ≡ 64 → (p : Participant) → is_participant p ≡ true → p.0 - 1 < length xs
-place_known xs long p known =
-    let k = and_parts _ _ known in
-    let low = leb-true 1 p.0 k.0 in
-    let high = leb-true p.0 64 k.1 in
-    omega arith
+place_known xs long p known = grind (arith, nat_tests)
 
 -- b holds no more than a, of either kind
 abbrev pub HoldsNoMore : Account → Account → Type 0
