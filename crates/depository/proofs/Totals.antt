@@ -1,7 +1,10 @@
 -- A figure added up over all accounts, and what a change of one account does to it.
-use Rattle.std.proofs.Common.{◌≡◌, ℕ, zero, suc, ◌+◌, ◌-◌, ◌<◌, ◌≤◌, true, List, [], ◌∷◌, length, get_or, drop, set, Ok, refl, ap, ◌∙◌, arith}
-use Rattle.std.proofs.lemmas.Bool.{and_parts, leb-true}
-use Rattle.std.proofs.lemmas.List.{at_drop_more}
+use Rattle.std.proofs.Common.{◌≡◌, ℕ, zero, suc, ◌+◌, ◌-◌, ◌<◌, ◌≤◌, true, List, [], ◌∷◌, length, get_or, drop, set, Ok, refl, ap, inl, inr, ◌∙◌, arith}
+use Rattle.std.proofs.lemmas.Bool.{leb-true, cases_lt}
+use Rattle.std.proofs.lemmas.Bool.Decides.{nat_tests}
+use Rattle.std.proofs.lemmas.List.{get_or_past}
+use Rattle.std.proofs.lemmas.List.Recursion.{is_sum_by}
+use Rattle.std.proofs.lemmas.List.Sums.{get_or-le-sum_by, sum_by-drop_more, sum_by-set}
 use Rattle.units.specs.Ranges.{is_participant}
 use Rattle.units.proofs.Checks.{checked_ok, ok_value}
 use Rattle.units.specs.declared.participant.Participant.{Participant}
@@ -15,15 +18,14 @@ use Rattle.depository.specs.Amounts.{size, free_of, held_of, most_of, has_blocke
 
 -- no account has more than all together
 pub one_in_all : (figure : Account → ℕ) → figure empty ≡ 0 → (xs : List Account) (i : ℕ) → figure (get_or xs i empty) ≤ in_all figure xs
-one_in_all figure none [] i = omega arith
-one_in_all figure none (a ∷ xs) zero = omega arith
-one_in_all figure none (a ∷ xs) (suc i) = omega (arith, one_in_all figure none xs i)
+one_in_all figure none xs i = elim (cases_lt i (length xs)) [
+  | inl low ↦ get_or-le-sum_by figure xs i empty low
+  | inr past ↦ (let e = get_or_past xs i empty past in omega (arith, ap figure e))
+]
 
 -- the figure in all changes by as much as that of the one account
 pub in_all-set : (figure : Account → ℕ) (xs : List Account) (i : ℕ) (b : Account) → i < length xs → in_all figure (set xs i b) + figure (get_or xs i empty) ≡ in_all figure xs + figure b
-in_all-set figure [] i b h = absurd (omega arith)
-in_all-set figure (a ∷ xs) zero b h = omega arith
-in_all-set figure (a ∷ xs) (suc i) b h = omega (arith, in_all-set figure xs i b (omega arith))
+in_all-set figure xs i b h = sum_by-set figure xs i b empty h
 
 -- one participant's holdings are within the bounds of all
 pub within_one : (xs : List Account) → Within xs → (p : Participant) (x : Amount) → held_of x (of xs p) ≤ most_of x
@@ -32,11 +34,7 @@ within_one xs w p (Money n) = omega (arith, one_in_all money_held refl xs (p.0 -
 
 -- a participant's number is a place among the accounts
 pub place_known : (xs : List Account) → length xs ≡ 64 → (p : Participant) → is_participant p ≡ true → p.0 - 1 < length xs
-place_known xs long p known =
-    let k = and_parts _ _ known in
-    let low = leb-true 1 p.0 k.0 in
-    let high = leb-true p.0 64 k.1 in
-    omega arith
+place_known xs long p known = grind (arith, nat_tests)
 
 -- b holds no more than a, of either kind
 abbrev pub HoldsNoMore : Account → Account → Type 0
@@ -56,7 +54,7 @@ in_all_next figure xs i a lt e =
     let m = checked_ok (is_participant (record { 0 = i + 1 })) NoParticipant (Ok (of xs (record { 0 = i + 1 }))) a e in
     let same : i + 1 - 1 ≡ i = omega arith in
     let old : figure a ≡ figure (get_or xs i empty) = ap figure (ok_value a _ m.1) ∙ ap (λ k. figure (get_or xs k empty)) same in
-    omega (arith, old, at_drop_more (in_all figure) xs i empty lt)
+    omega (arith, old, sum_by-drop_more figure xs i empty lt)
 
 -- an amount for which there is room may come to any participant
 pub free_gained : (xs : List Account) (p : Participant) (x : Amount) → in_all (held_of x) xs + size x ≤ most_of x → free_of x (of xs p) + size x ≤ most_of x

@@ -1,5 +1,5 @@
 -- The accounts of all participants, as a list: participant 1 is at index 0, participant 64 at index 63.
-use Rattle.std.specs.Prelude.{ℕ, ◌+◌, ◌-◌, ◌≤◌, Bool, ◌&&◌, List, [], ◌∷◌, ◌==◌, slice_index_or, slice_set}
+use Rattle.std.specs.Prelude.{ℕ, ◌+◌, ◌-◌, ◌≤◌, Bool, ◌&&◌, List, [], ◌∷◌, ◌==◌, slice_index_or, slice_set, sum_by}
 use Rattle.units.specs.Ranges.{most_lots, most_money}
 use Rattle.units.specs.declared.participant.Participant.{Participant}
 use Rattle.depository.specs.declared.account.Account.{Account}
@@ -29,8 +29,7 @@ money_held a = a.free_money.0 + a.blocked_money.0
 
 -- a figure of each account, added up over all of them
 abbrev pub in_all : (Account → ℕ) → List Account → ℕ
-in_all figure [] = 0
-in_all figure (a ∷ accounts) = figure a + in_all figure accounts
+in_all = sum_by
 
 -- all participants together hold no more than the market allows
 abbrev pub Within : List Account → Type 0
