@@ -15,11 +15,11 @@ among q ps = list_any (λ p. eqb q p) ps
 abbrev pub has_limit : ℕ → List Resting → Bool
 has_limit q es = list_any (λ e. eqb q (limit_of e)) es
 
-pub swap_or : (a b c : Bool) → (a || (b || c)) ≡ (b || (a || c))
-swap_or true true c = refl
-swap_or true false c = refl
-swap_or false true c = refl
-swap_or false false c = refl
+or_swapped : (a b c : Bool) → (a || (b || c)) ≡ (b || (a || c))
+or_swapped true true c = refl
+or_swapped true false c = refl
+or_swapped false true c = refl
+or_swapped false false c = refl
 
 or_twice : (a b : Bool) → (a || b) ≡ (a || (a || b))
 or_twice true b = refl
@@ -32,7 +32,7 @@ among_into q p (r ∷ rs) = elim (cases_Bool (eqb p r)) [
   | inl t ↦ rw (t, eqb-true p r t) (or_twice (eqb q r) (among q rs))
   | inr t ↦ elim (cases_Bool (ltb r p)) [
     | inl u ↦ rw (t, u) refl
-    | inr u ↦ rw (t, u) (ap (λ b. eqb q r || b) (among_into q p rs) ∙ swap_or (eqb q r) (eqb q p) (among q rs))
+    | inr u ↦ rw (t, u) (ap (λ b. eqb q r || b) (among_into q p rs) ∙ or_swapped (eqb q r) (eqb q p) (among q rs))
   ]
 ]
 

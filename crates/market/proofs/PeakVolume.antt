@@ -2,7 +2,6 @@
 use Rattle.std.proofs.Common.{◌≡◌, ℕ, zero, suc, ◌≤◌, true, false, cond, eqb, ltb, leb, List, [], ◌∷◌, ◌++◌, refl, ◌∙◌, inl, inr, arith}
 use Rattle.std.proofs.lemmas.Bool.{cases_Bool, or_parts, or_left}
 use Rattle.std.proofs.lemmas.Bool.Decides.{nat_tests}
-use Rattle.std.proofs.lemmas.List.Elements.{recursion_from_All}
 use Rattle.std.proofs.lemmas.List.Folds.{list_any-append}
 use Rattle.market.specs.declared.order.Resting.{Resting}
 use Rattle.market.specs.Orders.{total_if, limit_of, lots_of}
@@ -35,7 +34,7 @@ module _ (sells buys : List Resting) (v : ℕ) (most : (p : ℕ) → has_limit p
 
   pub most_at_limit : (q : ℕ) → volume sells buys q ≤ v
   most_at_limit zero = at_limit zero (λ none.
-      let nothing = total_none (λ e. cond (ltb (limit_of e) 0) (lots_of e) 0) sells (recursion_from_All (λ e. cond (ltb (limit_of e) 0) (lots_of e) 0 ≡ 0) sells (λ k d low. grind (arith, nat_tests))) in
+      let nothing = total_none (λ e. cond (ltb (limit_of e) 0) (lots_of e) 0) sells (λ k d low. grind (arith, nat_tests)) in
       omega (arith, supply_between sells zero none))
   most_at_limit (suc q) = at_limit (suc q) (λ none.
       let under = total_le (λ e. cond (ltb (limit_of e) (suc q)) (lots_of e) 0) (λ e. cond (leb (limit_of e) q) (lots_of e) 0) (λ e. grind (arith, nat_tests)) sells in

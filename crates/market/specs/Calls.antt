@@ -1,6 +1,6 @@
 -- What each call of a session answers, and what it makes of the session. A refused call leaves the session as it was.
 use Rattle.std.specs.Prelude.{ℕ, ◌+◌, Bool, cond, not, ◌&&◌, List, [], ◌∷◌, ◌++◌, map, length, Some, None, Ok, filter, Option, Result, ◌==◌, nat_eq, nat_lt}
-use Rattle.std.specs.List.{list_any}
+use Rattle.std.specs.List.{list_any, fold}
 use Rattle.ordered_list.specs.Order.{placed}
 use Rattle.units.specs.Answers.{check, if_ok, given, raised}
 use Rattle.units.specs.Ranges.{is_participant, is_price, is_order_size}
@@ -97,8 +97,7 @@ cancellation_of e = record { order = e.order.number; lots = e.lots }
 
 -- the cover of these is released
 abbrev pub released : List Account → List Resting → List Account
-released accounts [] = accounts
-released accounts (e ∷ es) = released (release_after accounts e.order.participant (cover_of e)) es
+released = fold (λ accounts e. release_after accounts e.order.participant (cover_of e))
 
 -- what waits of order n is annulled
 abbrev pub annulled : ℕ → State → State
@@ -114,8 +113,7 @@ annulled n s = record {
 
 -- what waits of these orders is annulled, one after the other
 abbrev pub annulled_each : List Order → State → State
-annulled_each [] s = s
-annulled_each (o ∷ os) s = annulled_each os (annulled o.number.0 s)
+annulled_each os s = fold (λ t o. annulled o.number.0 t) s os
 
 -- all that waits is annulled, by rising number
 abbrev pub all_annulled : State → State

@@ -1,6 +1,6 @@
 -- The cut-off: the one price of an iteration.
 use Rattle.std.specs.Prelude.{ℕ, ◌+◌, ◌/◌, ◌%◌, ◌≤◌, min, max, Bool, cond, ◌||◌, leb, List, [], ◌∷◌, ◌++◌, Some, None, filter, Option, ◌==◌, nat_le, nat_lt}
-use Rattle.std.specs.List.{list_any, list_all}
+use Rattle.std.specs.List.{list_any, list_all, fold}
 use Rattle.units.specs.declared.quantity.Price.{Price}
 use Rattle.market.specs.declared.order.Resting.{Resting}
 use Rattle.market.specs.Orders.{number_of, limit_of, lots_in}
@@ -36,8 +36,7 @@ abbrev pub earlier : Resting → Resting → Resting
 earlier x y = cond (nat_le (number_of x) (number_of y)) x y
 
 abbrev pub earliest : Resting → List Resting → Resting
-earliest e [] = e
-earliest e (x ∷ xs) = earliest (earlier e x) xs
+earliest = fold earlier
 
 abbrev pub limit_of_earliest : List Resting → ℕ
 limit_of_earliest [] = 0

@@ -7,11 +7,11 @@ use Rattle.units.specs.declared.quantity.Price.{Price}
 use Rattle.units.specs.declared.side.Side.TheVariants.{Buy}
 use Rattle.market.specs.declared.order.Resting.{Resting}
 use Rattle.market.specs.Orders.{limit_of}
+use Rattle.market.proofs.PeakLimits.{has_limit}
 use Rattle.pricing.specs.Levels.{front_orders}
 use Rattle.pricing.specs.Lines.{next_limit}
 use Rattle.pricing.proofs.Sides.{Sorted}
 use Rattle.pricing.proofs.Members.{any-append_right}
-use Rattle.pricing.proofs.Limits.{has_limit}
 
 -- the order at the front of one list has the limit
 data Fronted (p : ℕ) : List Resting → List Resting → Type 0 where
@@ -19,7 +19,7 @@ data Fronted (p : ℕ) : List Resting → List Resting → Type 0 where
   bid : {b : Resting} {os bs : List Resting} → limit_of b ≡ p → Fronted p os (b ∷ bs)
 
 next_fronted : (os bs : List Resting) (price : Price) → next_limit os bs ≡ Some price → Fronted price.0 os bs
-next_fronted [] [] price e = absurd (let z : ◌≡◌ {A = ℕ} 0 1 = cc in omega arith)
+next_fronted [] [] price e = cc
 next_fronted (o ∷ os) [] price e = offer (let h : o.order.limit ≡ price = cc in ap (λ (v : Price). v.0) h)
 next_fronted [] (b ∷ bs) price e = bid (let h : b.order.limit ≡ price = cc in ap (λ (v : Price). v.0) h)
 next_fronted (o ∷ os) (b ∷ bs) price e =

@@ -11,6 +11,7 @@ use Rattle.market.specs.declared.order.Resting.{Resting}
 use Rattle.market.specs.Orders.{total, limit_of, lots_of, lots_in}
 use Rattle.market.specs.Prices.{supply, demand, limits_of}
 use Rattle.market.specs.Queues.{Queues}
+use Rattle.market.proofs.PeakLimits.{has_limit}
 use Rattle.market.proofs.QueueEntries.{all_both}
 use Rattle.market.proofs.Totals.{total-append, all_first, all_second}
 use Rattle.pricing.specs.declared.line.Line.{Line}
@@ -22,7 +23,7 @@ use Rattle.pricing.proofs.Totals.{total_none, total-whole}
 use Rattle.pricing.proofs.Reversed.{total-reverse, sorted-reverse}
 use Rattle.pricing.proofs.Fronts.{front_at, front_lots_lem, front_le, rest_beyond}
 use Rattle.pricing.proofs.Members.{any_gives, any-append_cases, any-append-left, any-append_right, any-reverse}
-use Rattle.pricing.proofs.Limits.{has_limit, limits_same, limits_top}
+use Rattle.pricing.proofs.Limits.{limits_same, limits_top}
 use Rattle.pricing.proofs.Tops.{next_top, next_has, next_some}
 
 -- os and bs are left of the two queues, price downward, s lots of os and d lots of bids passed: the lines so far with those at
