@@ -1,18 +1,18 @@
 -- Sells the other way round go price downward, and are the same otherwise.
-use Rattle.std.proofs.Common.{◌≡◌, ℕ, ◌≤◌, List, [], ◌∷◌, ◌++◌, reverse, length, take, drop, sym, refl, ap, ◌∙◌}
+use Rattle.std.proofs.Common.{◌≡◌, ℕ, ◌≤◌, List, [], ◌∷◌, ◌++◌, reverse, length, take, drop, sym, ap, ◌∙◌}
 use mathlib.Core.List.{reverse_aux}
 use Rattle.std.specs.List.{AllByRecursion}
 use Rattle.std.proofs.Math.Seq.{take-append_seam, drop-append_seam}
 use Rattle.std.proofs.lemmas.List.{length-reverse, reverse-append, take-append-drop}
-use Rattle.std.proofs.lemmas.List.Recursion.{is_sum_by}
-use Rattle.std.proofs.lemmas.List.Sorted.{IsPermutation-reverse, sum_by-IsPermutation}
+use Rattle.std.proofs.lemmas.List.Sorted.{IsPermutation-reverse}
 use Rattle.units.specs.declared.side.Side.TheVariants.{Sell, Buy}
 use Rattle.market.specs.declared.order.Resting.{Resting}
 use Rattle.market.specs.Orders.{total, limit_of}
+use Rattle.market.proofs.Totals.{total_moved}
 use Rattle.pricing.proofs.Sides.{Sorted}
 
 pub total-reverse : {X : Type 0} (f : X → ℕ) (xs : List X) → total f (reverse xs) ≡ total f xs
-total-reverse f xs = let t = is_sum_by (total f) f refl (λ _ _. refl) in t (reverse xs) ∙ sum_by-IsPermutation f xs (reverse xs) (IsPermutation-reverse xs) ∙ sym (t xs)
+total-reverse f xs = total_moved f xs (reverse xs) (IsPermutation-reverse xs)
 
 -- one more stands in front of those that each of xs is no lower than
 one_more : (x : Resting) (ys xs : List Resting) → AllByRecursion (λ z. limit_of x ≤ limit_of z) xs → AllByRecursion (λ z. AllByRecursion (λ y. limit_of y ≤ limit_of z) ys) xs →
