@@ -1,5 +1,5 @@
 -- The accounts of all participants, as a list: participant 1 is at index 0, participant 64 at index 63.
-use Rattle.std.specs.Prelude.{ℕ, ◌+◌, ◌-◌, ◌≤◌, Bool, ◌&&◌, List, [], ◌∷◌, ◌==◌, slice_index_or, slice_set, sum_by}
+use Rattle.std.specs.Prelude.{ℕ, ◌+◌, ◌-◌, ◌≤◌, Bool, ◌&&◌, List, ◌==◌, slice_index_or, slice_set, sum_by}
 use Rattle.units.specs.Ranges.{most_lots, most_money}
 use Rattle.units.specs.declared.participant.Participant.{Participant}
 use Rattle.depository.specs.declared.account.Account.{Account}

@@ -1,6 +1,5 @@
 -- Orders that wait, and what can be said of them.
 use Rattle.std.specs.Prelude.{ℕ, ◌+◌, ◌-◌, Bool, cond, List, [], ◌∷◌, nat_eq, nat_le}
-use Rattle.std.specs.List.{list_any}
 use Rattle.ordered_list.specs.Keys.{upward, then_by}
 use Rattle.units.specs.Worth.{worth}
 use Rattle.units.specs.declared.quantity.Price.{Price}
@@ -20,10 +19,6 @@ total figure (x ∷ xs) = figure x + total figure xs
 -- the same over those alone that pass a test
 abbrev pub total_if : {X : Type 0} → (X → Bool) → (X → ℕ) → List X → ℕ
 total_if test figure xs = total (λ x. cond (test x) (figure x) 0) xs
-
--- whether some of them passes a test
-abbrev pub some : {X : Type 0} → (X → Bool) → List X → Bool
-some = list_any
 
 -- of a waiting order: its number, the participant it is of, its limit, the lots that wait
 abbrev pub number_of : Resting → ℕ

@@ -1,7 +1,8 @@
 ghost use Rattle.std.specs.Prelude.{◌≡◌, ◌+◌, ◌*◌, ◌<◌, ◌≤◌, [], ◌∷◌, ◌++◌, length, Some as Found, ◌==◌, ◌&&◌};
 ghost use Rattle.units.specs.declared.side.Side.TheVariants.{Sell as Selling, Buy as Buying};
 ghost use Rattle.arrayvec.specs.ArrayVec.{array_vec_len};
-ghost use Rattle.market.specs.Orders.{some, number_of, lots_in};
+ghost use Rattle.std.specs.List.{list_any};
+ghost use Rattle.market.specs.Orders.{number_of, lots_in};
 ghost use Rattle.market.specs.Calls.{joined_by, cancellation_of};
 ghost use Rattle.session.specs.Lists.{first_with, without_first};
 
@@ -66,7 +67,7 @@ impl Book {
 
     /// Whether an order of this participant has the number.
     pub(crate) fn is_own(&self, who: Participant, number: OrderNumber) -> bool
-        ensures { result ≡ some (λ o. (o.number.0 == number.0) && o.participant.0 == who.0) self.now.orders.items }
+        ensures { result ≡ list_any (λ o. (o.number.0 == number.0) && o.participant.0 == who.0) self.now.orders.items }
     {
         self.orders
             .as_slice()

@@ -1,9 +1,9 @@
 -- The entries of a sparse depository: what stays true as one comes and goes, and what they say of a participant.
-use Rattle.std.specs.Prelude.{◌≡◌, MatchOption, ℕ, zero, suc, ◌+◌, ◌-◌, ◌<◌, ◌≤◌, true, false, cond, List, [], ◌∷◌, length, get_or, replicate, ◌==◌, ◌≢◌, slice_index_or, slice_set, refl}
+use Rattle.std.specs.Prelude.{◌≡◌, MatchOption, ℕ, zero, suc, ◌+◌, ◌-◌, ◌<◌, ◌≤◌, true, false, cond, List, [], ◌∷◌, length, get_or, take, replicate, ◌==◌, ◌≢◌, slice_index_or, slice_set, refl}
 use Rattle.std.proofs.Common.{sym, ap, ◌∙◌, inl, inr, arith}
 use Rattle.std.specs.List.{insert, remove, find}
 use Rattle.std.proofs.lemmas.List.FromFn.{length-map-range_with_len, get_or-map-range_with_len}
-use Rattle.std.proofs.lemmas.List.{ext_get_or, length-set, get_or-set_same, get_or-set_other}
+use Rattle.std.proofs.lemmas.List.{ext_get_or, length-take, get_or-take, length-set, get_or-set_same, get_or-set_other}
 use Rattle.std.proofs.lemmas.Bool.{and_parts, and_from, and_left, leb-true, le-leb, lt-ltb, le-ltb, eqb-true, eqb-false, eq-eqb, ne_eqb, cases_eq, cases_lt, cases_Bool, cond-true, cond-false, not_from_false}
 use Rattle.units.specs.Ranges.{is_participant}
 use Rattle.units.specs.declared.participant.Participant.{Participant}
@@ -38,12 +38,13 @@ rising_few low [] l h = omega arith
 rising_few low (e ∷ es) l h = let p = rising_head low e es h in omega (arith, rising_few (number e + 1) es (omega arith) p.2)
 
 -- who comes before all of a rising list has no entry in it
-without_before : (low p : ℕ) (es : List AccountEntry) → p < low → rising low es ≡ true → without p es ≡ es
-without_before low p [] l h = refl
-without_before low p (e ∷ es) l h =
+look_before : (low p : ℕ) (es : List AccountEntry) → p < low → rising low es ≡ true → (look es p ≡ empty) × (without p es ≡ es)
+look_before low p [] l h = (refl, refl)
+look_before low p (e ∷ es) l h =
     let r = rising_head low e es h in
     let n = ne_eqb (number e) p (λ q. omega arith) in
-    cond-false _ _ _ n ∙ ap (λ xs. e ∷ xs) (without_before (number e + 1) p es (omega arith) r.2)
+    let more = look_before (number e + 1) p es (omega arith) r.2 in
+    (cond-false _ _ _ n ∙ more.0, cond-false _ _ _ n ∙ ap (λ xs. e ∷ xs) more.1)
 
 -- what the entries say of a participant is what the first entry with its number says, if there is one
 pub look_first : (p : ℕ) (es : List AccountEntry) → MatchOption (find (λ e. number e == p) es) (look es p ≡ empty) (λ e. look es p ≡ e.account)
@@ -55,10 +56,15 @@ look_first p (e ∷ es) =
     ]
 
 -- nobody's entry was found
+pub absent : (p : ℕ) (es : List AccountEntry) → Absent p es → (look es p ≡ empty) × (without p es ≡ es)
+absent p [] h = (refl, refl)
+absent p (e ∷ es) h =
+    let n = ne_eqb (number e) p (h 0 (omega arith)) in
+    let more = absent p es (λ k l. h (suc k) (omega arith)) in
+    (cond-false _ _ _ n ∙ more.0, cond-false _ _ _ n ∙ ap (λ xs. e ∷ xs) more.1)
+
 pub without_none : (p : ℕ) (es : List AccountEntry) → Absent p es → without p es ≡ es
-without_none p [] h = refl
-without_none p (e ∷ es) h =
-    cond-false _ _ _ (ne_eqb (number e) p (h 0 (omega arith))) ∙ ap (λ xs. e ∷ xs) (without_none p es (λ k l. h (suc k) (omega arith)))
+without_none p es h = (absent p es h).1
 
 -- an entry of a rising list has at least the number that the list rises from
 number_low : (low : ℕ) (es : List AccountEntry) (i : ℕ) → i < length es → rising low es ≡ true → low ≤ number (slice_index_or es i nobody)
@@ -67,17 +73,23 @@ number_low low (e ∷ es) zero l h = (rising_head low e es h).0
 number_low low (e ∷ es) (suc i) l h = let r = rising_head low e es h in omega (arith, number_low (number e + 1) es i (omega arith) r.2)
 
 -- the participant's entry was found
-pub without_found : (low p : ℕ) (es : List AccountEntry) (i : ℕ) → i < length es → number (slice_index_or es i nobody) ≡ p → rising low es ≡ true →
-    remove es i ≡ without p es
-without_found low p [] i l e h = absurd (omega arith)
-without_found low p (a ∷ es) zero l e h =
+pub found : (low p : ℕ) (es : List AccountEntry) (i : ℕ) → i < length es → number (slice_index_or es i nobody) ≡ p → rising low es ≡ true →
+    (look es p ≡ (get_or es i nobody).account) × (remove es i ≡ without p es)
+found low p [] i l e h = absurd (omega arith)
+found low p (a ∷ es) zero l e h =
     let r = rising_head low a es h in
-    sym (cond-true _ _ _ (eq-eqb (number a) p e) ∙ without_before (number a + 1) p es (omega arith) r.2)
-without_found low p (a ∷ es) (suc i) l e h =
+    let n = eq-eqb (number a) p e in
+    (cond-true _ _ _ n, sym (cond-true _ _ _ n ∙ (look_before (number a + 1) p es (omega arith) r.2).1))
+found low p (a ∷ es) (suc i) l e h =
     let r = rising_head low a es h in
     let far = number_low (number a + 1) es i (omega arith) r.2 in
     let n = ne_eqb (number a) p (λ q. omega arith) in
-    ap (λ xs. a ∷ xs) (without_found (number a + 1) p es i (omega arith) e r.2) ∙ sym (cond-false _ _ _ n)
+    let more = found (number a + 1) p es i (omega arith) e r.2 in
+    (cond-false _ _ _ n ∙ more.0, ap (λ xs. a ∷ xs) more.1 ∙ sym (cond-false _ _ _ n))
+
+pub without_found : (low p : ℕ) (es : List AccountEntry) (i : ℕ) → i < length es → number (slice_index_or es i nobody) ≡ p → rising low es ≡ true →
+    remove es i ≡ without p es
+without_found low p es i l e h = (found low p es i l e h).1
 
 -- without a participant's entry the rest still rises and still holds, and says the same of the others
 pub rising_without : (low p : ℕ) (es : List AccountEntry) → rising low es ≡ true → rising low (without p es) ≡ true
@@ -258,6 +270,14 @@ of_accounts es p known =
 pub no_entries : accounts_of [] ≡ replicate 64 empty
 unfolding accounts_of
 no_entries = refl
+
+-- what the entries say of a participant, where its entry is at i of the memory
+pub look_found : (p : ℕ) (entries : List AccountEntry) (count i : ℕ) → (i < length (take count entries)) × (number (slice_index_or (take count entries) i nobody) ≡ p) →
+    rising 1 (take count entries) ≡ true → look (take count entries) p ≡ (get_or entries i nobody).account
+look_found p entries count i there rises =
+    let long = length-take count entries in
+    let below : i < count = grind arith in
+    (found 1 p (take count entries) i there.0 there.1 rises).0 ∙ ap (λ (e : AccountEntry). e.account) (get_or-take count entries i nobody below)
 
 pub within_none : Within (accounts_of [])
 unfolding accounts_of
