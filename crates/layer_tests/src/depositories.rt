@@ -23,6 +23,7 @@ fn delivery(seller: Participant, buyer: Participant, lots: u64, money: u128) -> 
 }
 
 /// Free lots, blocked lots, free money, blocked money; all 31 where the participant is refused.
+// Numbers, and no `Account`s, so that the rows that are wanted stand side by side.
 fn amounts<B: AccountBook>(book: &B, who: u16) -> [u128; 4] {
     match book.balances(Participant(who)) {
         Ok(a) => [
@@ -186,8 +187,8 @@ fn entries_are_of_those_who_hold_something(rt: HostRuntime) {
 #[test]
 fn all_64_may_have_entries(rt: HostRuntime) {
     let mut d = SparseDepository::new();
-    for i in 0..64 {
-        let _ = d.pay_in(Participant(64 - i), lots(1));
+    for number in (Participant::FIRST..=Participant::LAST).rev() {
+        let _ = d.pay_in(Participant(number), lots(1));
     }
     assert_eq!(rt; d.entry_count(), 64);
     assert_eq!(rt; amounts(&d, 17), [1, 0, 0, 0]);

@@ -1,4 +1,5 @@
-//! Answers as the numbers that the tests expect: those of refusals are 31 and more.
+//! Answers as the numbers that the tests expect, and not as `Result`s: the rules know a refusal by its number, and a row of
+//! them fits a line.
 
 use units::RefusalCode;
 

@@ -1,6 +1,6 @@
 -- The entries of a sparse depository: what stays true as one comes and goes, and what they say of a participant.
-use Rattle.std.specs.Prelude.{◌≡◌, MatchOption, ℕ, zero, suc, ◌+◌, ◌-◌, ◌<◌, ◌≤◌, Bool, true, false, cond, List, [], ◌∷◌, length, get_or, replicate, ◌==◌, ◌≢◌, slice_index_or, slice_set, refl}
-use Rattle.std.proofs.Common.{sym, ap, subst, ◌∙◌, inl, inr, arith}
+use Rattle.std.specs.Prelude.{◌≡◌, MatchOption, ℕ, zero, suc, ◌+◌, ◌-◌, ◌<◌, ◌≤◌, true, false, cond, List, [], ◌∷◌, length, get_or, replicate, ◌==◌, ◌≢◌, slice_index_or, slice_set, refl}
+use Rattle.std.proofs.Common.{sym, ap, ◌∙◌, inl, inr, arith}
 use Rattle.std.specs.List.{insert, remove, find}
 use Rattle.std.proofs.lemmas.List.FromFn.{length-map-range_with_len, get_or-map-range_with_len}
 use Rattle.std.proofs.lemmas.List.{ext_get_or, length-set, get_or-set_same, get_or-set_other}
@@ -85,10 +85,9 @@ rising_without low p [] h = refl
 rising_without low p (e ∷ es) h =
     let r = rising_head low e es h in
     let more = rising_without (number e + 1) p es r.2 in
-    let P : List AccountEntry → Type 0 = λ xs. rising low xs ≡ true in
     elim (cases_Bool (number e == p)) [
-      | inl t ↦ subst P (sym (cond-true _ _ _ t)) (rising_lower (number e + 1) low (without p es) (omega arith) more)
-      | inr f ↦ subst P (sym (cond-false _ _ _ f)) (rising_from low e (without p es) r.0 r.1 more)
+      | inl t ↦ simp t (rising_lower (number e + 1) low (without p es) (omega arith) more)
+      | inr f ↦ simp f (rising_from low e (without p es) r.0 r.1 more)
     ]
 
 pub hold_without : (p : ℕ) (es : List AccountEntry) → all_hold es ≡ true → all_hold (without p es) ≡ true
@@ -96,31 +95,28 @@ hold_without p [] h = refl
 hold_without p (e ∷ es) h =
     let a = and_parts _ _ h in
     let more = hold_without p es a.1 in
-    let P : List AccountEntry → Type 0 = λ xs. all_hold xs ≡ true in
     elim (cases_Bool (number e == p)) [
-      | inl t ↦ subst P (sym (cond-true _ _ _ t)) more
-      | inr f ↦ subst P (sym (cond-false _ _ _ f)) (and_from _ _ a.0 more)
+      | inl t ↦ simp t more
+      | inr f ↦ simp f (and_from _ _ a.0 more)
     ]
 
 look_without_same : (p : ℕ) (es : List AccountEntry) → look (without p es) p ≡ empty
 look_without_same p [] = refl
 look_without_same p (e ∷ es) =
-    let P : List AccountEntry → Type 0 = λ xs. look xs p ≡ empty in
     elim (cases_Bool (number e == p)) [
-      | inl t ↦ subst P (sym (cond-true _ _ _ t)) (look_without_same p es)
-      | inr f ↦ subst P (sym (cond-false _ _ _ f)) (cond-false _ _ _ f ∙ look_without_same p es)
+      | inl t ↦ simp t (look_without_same p es)
+      | inr f ↦ simp f (look_without_same p es)
     ]
 
 look_without_other : (p q : ℕ) (es : List AccountEntry) → (q ≢ p) → look (without p es) q ≡ look es q
 look_without_other p q [] n = refl
 look_without_other p q (e ∷ es) n =
-    let P : List AccountEntry → Type 0 = λ xs. look xs q ≡ cond (number e == q) e.account (look es q) in
     let more = look_without_other p q es n in
     elim (cases_Bool (number e == p)) [
       | inl t ↦
           let same = eqb-true (number e) p t in
-          subst P (sym (cond-true _ _ _ t)) (more ∙ sym (cond-false _ _ _ (ne_eqb (number e) q (λ r. n (sym r ∙ same)))))
-      | inr f ↦ subst P (sym (cond-false _ _ _ f)) (ap (λ a. cond (number e == q) e.account a) more)
+          simp t (more ∙ sym (cond-false _ _ _ (ne_eqb (number e) q (λ r. n (sym r ∙ same)))))
+      | inr f ↦ simp f (ap (λ a. cond (number e == q) e.account a) more)
     ]
 
 absent_cons : (p : ℕ) (e : AccountEntry) (es : List AccountEntry) → (number e ≢ p) → Absent p es → Absent p (e ∷ es)
@@ -131,8 +127,8 @@ without_absent : (p : ℕ) (es : List AccountEntry) → Absent p (without p es)
 without_absent p [] = λ k l e. omega arith
 without_absent p (a ∷ es) =
     elim (cases_Bool (number a == p)) [
-      | inl t ↦ subst (Absent p) (sym (cond-true _ _ _ t)) (without_absent p es)
-      | inr f ↦ subst (Absent p) (sym (cond-false _ _ _ f)) (absent_cons p a (without p es) (eqb-false (number a) p f) (without_absent p es))
+      | inl t ↦ simp t (without_absent p es)
+      | inr f ↦ simp f (absent_cons p a (without p es) (eqb-false (number a) p f) (without_absent p es))
     ]
 
 -- every entry of a list that rises from above x comes after x
@@ -148,16 +144,15 @@ rising_placed : (low : ℕ) (x : AccountEntry) (es : List AccountEntry) → low 
 rising_placed low x [] l m h n = rising_from low x [] l m refl
 rising_placed low x (y ∷ ys) l m h n =
     let r = rising_head low y ys h in
-    let P : Bool → Type 0 = λ b. rising low (insert (y ∷ ys) (cond b 0 (suc (position_of by_participant x ys))) x) ≡ true in
     elim (cases_lt (number x) (number y)) [
       | inl below ↦
           let first = and_from _ _ (lt-ltb (number x) (number y) below) (all_after_lem (number y + 1) x ys (omega arith) r.2) in
-          subst P (sym first) (rising_from low x (y ∷ ys) l m (rising_from (number x + 1) y ys (omega arith) r.1 r.2))
+          simp first (rising_from low x (y ∷ ys) l m (rising_from (number x + 1) y ys (omega arith) r.1 r.2))
       | inr above ↦
           let apart : number y ≡ number x → ⊥ = n 0 (omega arith) in
           let later : number y < number x = grind arith in
           let behind = and_left (by_participant y x) (all_after by_participant x ys) (le-ltb (number x) (number y) (omega arith)) in
-          subst P (sym behind) (rising_from low y (placed by_participant x ys) r.0 r.1
+          simp behind (rising_from low y (placed by_participant x ys) r.0 r.1
           (rising_placed (number y + 1) x ys (omega arith) m r.2 (λ k j. n (suc k) (omega arith))))
     ]
 
@@ -229,9 +224,8 @@ replaced_is p a es known r h =
     let x : AccountEntry = record { who = p; account = a } in
     let rest = without p.0 es in
     let rest-rises = rising_without 1 p.0 es r in
-    let P : List AccountEntry → Type 0 = Replaced p a es in
     elim (cases_Bool (is_empty a)) [
-      | inl e ↦ subst P (sym (cond-true _ _ _ e)) (record {
+      | inl e ↦ simp e (record {
         rises = rest-rises;
         hold = hold_without p.0 es h;
         few = omega (arith, rising_few 1 rest (omega arith) rest-rises);
@@ -240,7 +234,7 @@ replaced_is p a es known r h =
       | inr e ↦
           let i = position_of by_participant x rest in
           let rises = rising_placed 1 x rest low high rest-rises (without_absent p.0 es) in
-          subst P (sym (cond-false _ _ _ e)) (record {
+          simp e (record {
             rises = rises;
             hold = hold_inserted rest i x (hold_without p.0 es h) e;
             few = omega (arith, rising_few 1 (placed by_participant x rest) (omega arith) rises);

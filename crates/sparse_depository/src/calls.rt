@@ -28,6 +28,7 @@ impl AccountBook for SparseDepository {
 }
 
 impl SparseDepository {
+    #[tactic(auto, using(crate::specs::EntriesLemmas::of_accounts))]
     fn account(&self, who: Participant) -> Account
         requires { is_participant who ≡ true }
         ensures { result ≡ of (accounts_of (take self.now.count self.now.entries)) who }

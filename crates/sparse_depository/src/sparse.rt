@@ -24,6 +24,7 @@ pub struct SparseDepository {
 
 impl SparseDepository {
     /// Nobody holds anything, so there is no entry.
+    #[tactic(auto, using(crate::specs::EntriesLemmas::no_entries, crate::specs::EntriesLemmas::within_none))]
     pub fn new() -> SparseDepository
         ensures accounts { accounts_of (take result.count result.entries) ≡ replicate 64 empty }
         ensures none { result.count ≡ 0 }
