@@ -1,19 +1,9 @@
-use depository::{
-    AccountBook, Amount, BackOffice, Delivery, Depository, DepositoryFault, held_in_all,
-};
+use crate::numbers::number;
+use depository::{AccountBook, Amount, BackOffice, Delivery, Depository, held_in_all};
 use sparse_depository::SparseDepository;
 use std::process::Abort;
 use table_depository::TableDepository;
-use units::{Lots, Money, Participant, RefusalCode};
-
-/// The refusal's number, or 0 where the call was accepted.
-// Numbers, and no `Result`s: the rules know a refusal by its number, and a row of them fits a line.
-fn number(answer: Result<(), DepositoryFault>) -> u8 {
-    match answer {
-        Ok(()) => 0,
-        Err(fault) => RefusalCode::from(fault).number,
-    }
-}
+use units::{Lots, Money, Participant};
 
 fn lots(n: u64) -> Amount {
     Amount::Lots(Lots(n))

@@ -5,6 +5,8 @@
 #[cfg(test)]
 mod depositories;
 #[cfg(test)]
+mod numbers;
+#[cfg(test)]
 mod ordered_lists;
 #[cfg(test)]
 mod sharing_rules;

@@ -1,8 +1,8 @@
 ghost use Rattle.ordered_list.specs.Keys.{upward, downward, then_by};
 ghost use Rattle.ordered_list.proofs.Keys.{down_up-lawful};
 
-use ordered_list::{ListFault, OrderedList, Ranked};
-use units::RefusalCode;
+use crate::numbers::or_number;
+use ordered_list::{OrderedList, Ranked};
 
 #[derive(Clone, Copy)]
 struct Line {
@@ -29,20 +29,12 @@ fn entry(price: u32, number: u32) -> Line {
     Line { price, number }
 }
 
-/// What a call answered, or 50 and more: the refusal's number.
-fn or_number<T: From<u8>>(answer: Result<T, ListFault>) -> T {
-    match answer {
-        Ok(x) => x,
-        Err(fault) => T::from(RefusalCode::from(fault).number),
-    }
-}
-
-/// The position that a line gets.
+/// The position that a line gets, or 51.
 fn position(list: &mut OrderedList<Line>, line: Line) -> usize {
     or_number(list.insert(line))
 }
 
-/// The number of the line that stood at a position.
+/// The number of the line that stood at a position, or 52.
 fn removed(list: &mut OrderedList<Line>, at: usize) -> u32 {
     or_number(list.remove(at).map(|line| line.number))
 }

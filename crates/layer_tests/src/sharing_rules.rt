@@ -1,20 +1,13 @@
-use sharing::{ByTime, ProRata, Share, SharingFault, SharingRule};
+use crate::numbers::number;
+use sharing::{ByTime, ProRata, Share, SharingRule};
 use std::process::Abort;
-use units::{Lots, RefusalCode};
+use units::Lots;
 
 /// A line on which a share of 7 lots stands from before.
 fn line(lots: u64) -> Share {
     Share {
         lots: Lots(lots),
         share: Lots(7),
-    }
-}
-
-/// The refusal's number, or 0 where the call was accepted.
-fn number(answer: Result<(), SharingFault>) -> u8 {
-    match answer {
-        Ok(()) => 0,
-        Err(fault) => RefusalCode::from(fault).number,
     }
 }
 

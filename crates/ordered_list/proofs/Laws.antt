@@ -1,6 +1,6 @@
 -- What the laws of an order come to.
-use Rattle.std.proofs.Common.{◌≡◌, Bool, true, false, not, inl, inr}
-use Rattle.std.proofs.lemmas.Bool.{cases_Bool, both_ways, and_parts, and_from, not-true, not_from_false}
+use Rattle.std.proofs.Common.{◌≡◌, Bool, true, false, arith}
+use Rattle.std.proofs.lemmas.Bool.{cases_Bool, and_parts}
 use Rattle.ordered_list.specs.Order.{rank_alike}
 
 -- the laws of `Ranked`
@@ -11,27 +11,15 @@ pub record Lawful {X : Type 0} (after : X → X → Bool) : Type 0 where
 
 -- to rank alike is that neither ranks after the other
 pub alike_from : {X : Type 0} (after : X → X → Bool) (x y : X) → after x y ≡ false → after y x ≡ false → rank_alike after x y ≡ true
-alike_from after x y p q = and_from (not (after x y)) (not (after y x)) (not_from_false (after x y) p) (not_from_false (after y x) q)
+alike_from after x y p q = grind arith
 
 pub alike_parts : {X : Type 0} (after : X → X → Bool) (x y : X) → rank_alike after x y ≡ true → (after x y ≡ false) × (after y x ≡ false)
-alike_parts after x y e =
-    let p = and_parts (not (after x y)) (not (after y x)) e in
-    (not-true (after x y) p.0, not-true (after y x) p.1)
+alike_parts after x y e = grind (arith, and_parts)
 
 -- not to rank after carries along a chain
 pub not_after_chain : {X : Type 0} (after : X → X → Bool) → Lawful after →
     (x y z : X) → after x y ≡ false → after y z ≡ false → after x z ≡ false
-not_after_chain after l x y z p q =
-    elim (cases_Bool (after x z)) [
-      | inr e ↦ e
-      | inl e ↦ elim (cases_Bool (after y x)) [
-        | inl f ↦ absurd (both_ways (after y z) q (l.chain y x z f e))
-        | inr f ↦ elim (cases_Bool (after z y)) [
-          | inl h ↦ absurd (both_ways (after x y) p (l.chain x z y e h))
-          | inr h ↦ (alike_parts after x z (l.alike x y z (alike_from after x y p f) (alike_from after y z q h))).0
-        ]
-      ]
-    ]
+not_after_chain after l x y z p q = grind (arith, cases_Bool, and_parts, l.chain y x z, l.chain x z y, l.alike x y z)
 
 -- an order is lawful if no two lines rank after each other, and not to rank after carries along a chain
 pub lawful_from : {X : Type 0} (after : X → X → Bool) →
@@ -39,12 +27,6 @@ pub lawful_from : {X : Type 0} (after : X → X → Bool) →
     ((x y z : X) → after x y ≡ false → after y z ≡ false → after x z ≡ false) → Lawful after
 lawful_from after a n = record {
   apart = a;
-  chain = λ x y z p q. elim (cases_Bool (after x z)) [
-    | inl e ↦ e
-    | inr e ↦ absurd (both_ways (after x y) (n x z y e (a y z q)) p)
-  ];
-  alike = λ x y z p q.
-      let u = alike_parts after x y p in
-      let v = alike_parts after y z q in
-      alike_from after x z (n x y z u.0 v.0) (n z y x v.1 u.1);
+  chain = λ x y z p q. grind (arith, cases_Bool, a y z q, n x z y);
+  alike = λ x y z p q. grind (arith, and_parts, n x y z, n z y x);
 }

@@ -1,4 +1,5 @@
 pub mod Keys
+pub mod Lent
 pub mod Lists
 pub mod Order
 pub mod Refusals

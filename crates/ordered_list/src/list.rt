@@ -1,6 +1,6 @@
 ghost use Rattle.std.specs.Prelude.{◌≡◌, true, length, IfOk};
 ghost use Rattle.ordered_list.specs.Order.{in_order, RightPosition};
-ghost use Rattle.ordered_list.specs.Lists.{list_of, length_of, has_room, has_position, insert_answer, insert_list, insert_memory, insert_len, remove_answer, remove_list, remove_memory, remove_len};
+ghost use Rattle.ordered_list.specs.Lists.{length_of, has_room, has_position, insert_answer, insert_list, insert_memory, insert_len, remove_answer, remove_list, remove_memory, remove_len};
 
 use crate::edit::{first, insert_into, remove_from};
 use crate::{ListFault, Ranked};
@@ -8,14 +8,16 @@ use crate::{ListFault, Ranked};
 /// An ordered list: the first `len` lines of memory that the caller lends, or all of it where `len` passes its end.
 /// A list that is in order stays in order. It is not `Drop`: `done` takes its length back, so that none is forgotten.
 ///
-/// A slice and a length, and no `Vec`: the engine has no heap. Contracts name both fields, and no `Model` hides them: its value
-/// would have to hold the loan, or nobody could tell whose memory changed, and so be these two fields again.
+/// A slice and a length, and no `Vec`: the engine has no heap. Contracts name both fields: of a struct with a `Model` that is
+/// given up, as in `done`, no clause can say what is left in the memory that it borrowed.
 pub struct OrderedList<'a, T> {
     lines: &'a mut [T],
     len: usize,
 }
 
 impl<'a, T: Ranked + Copy> OrderedList<'a, T> {
+    ghost use Rattle.ordered_list.specs.Lent.{lines_in};
+
     /// The list that the first `len` lines of the memory are.
     pub fn over(lines: &'a mut [T], len: usize) -> OrderedList<'a, T>
         ensures lines { result.lines ≡ lines.entry }
@@ -44,7 +46,7 @@ impl<'a, T: Ranked + Copy> OrderedList<'a, T> {
 
     /// The list's lines, in their order.
     pub fn lines(&self) -> &[T]
-        ensures { result.now ≡ list_of self.now.len self.now.lines.now }
+        ensures { result.now ≡ lines_in self.now }
     {
         first(self.lines, self.len)
     }
@@ -54,11 +56,11 @@ impl<'a, T: Ranked + Copy> OrderedList<'a, T> {
         ensures same { self.new.lines.ghost_name ≡ self.old.lines.ghost_name }
         ensures long { length self.new.lines.now ≡ length self.old.lines.now }
         ensures answer { result ≡ insert_answer T.Ranked.after self.old.len self.old.lines.now line }
-        ensures position { IfOk result (RightPosition T.Ranked.after line (list_of self.old.len self.old.lines.now)) }
-        ensures list { list_of self.new.len self.new.lines.now ≡ insert_list T.Ranked.after self.old.len self.old.lines.now line }
+        ensures position { IfOk result (RightPosition T.Ranked.after line (lines_in self.old)) }
+        ensures list { lines_in self.new ≡ insert_list T.Ranked.after self.old.len self.old.lines.now line }
         ensures memory { self.new.lines.now ≡ insert_memory T.Ranked.after self.old.len self.old.lines.now line }
         ensures count { self.new.len ≡ insert_len self.old.len self.old.lines.now }
-        ensures order { in_order T.Ranked.after (list_of self.old.len self.old.lines.now) ≡ true → in_order T.Ranked.after (list_of self.new.len self.new.lines.now) ≡ true }
+        ensures order { in_order T.Ranked.after (lines_in self.old) ≡ true → in_order T.Ranked.after (lines_in self.new) ≡ true }
     {
         if !self.has_room() {
             return Err(ListFault::Full);
@@ -74,10 +76,10 @@ impl<'a, T: Ranked + Copy> OrderedList<'a, T> {
         ensures same { self.new.lines.ghost_name ≡ self.old.lines.ghost_name }
         ensures long { length self.new.lines.now ≡ length self.old.lines.now }
         ensures answer { result ≡ remove_answer self.old.len self.old.lines.now at }
-        ensures list { list_of self.new.len self.new.lines.now ≡ remove_list self.old.len self.old.lines.now at }
+        ensures list { lines_in self.new ≡ remove_list self.old.len self.old.lines.now at }
         ensures memory { self.new.lines.now ≡ remove_memory self.old.len self.old.lines.now at }
         ensures count { self.new.len ≡ remove_len self.old.len self.old.lines.now at }
-        ensures order { in_order T.Ranked.after (list_of self.old.len self.old.lines.now) ≡ true → in_order T.Ranked.after (list_of self.new.len self.new.lines.now) ≡ true }
+        ensures order { in_order T.Ranked.after (lines_in self.old) ≡ true → in_order T.Ranked.after (lines_in self.new) ≡ true }
     {
         if !self.has_line(at) {
             return Err(ListFault::NoSuchPosition);

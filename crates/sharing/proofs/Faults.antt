@@ -1,12 +1,12 @@
 -- Which fault there is in lines and a total, and where there is none.
-use Rattle.std.proofs.Common.{◌≡◌, ℕ, ◌*◌, ◌≤◌, Bool, true, false, cond, ltb, List, [], ◌∷◌, length, Some, None, Ok, Err, sum, Option, sym, refl, ap, arith}
+use Rattle.std.proofs.Common.{◌≡◌, ℕ, ◌*◌, ◌≤◌, false, List, [], ◌∷◌, length, Some, None, Ok, Err, sum, Option, sym, refl, ap, arith}
 use Rattle.std.specs.List.{AllByRecursion}
 use Rattle.std.proofs.ByRecursion.{sum_by_le}
-use Rattle.std.proofs.lemmas.Bool.{le-ltb, ltb-false, or_from, or_parts}
+use Rattle.std.proofs.lemmas.Bool.{cases_Bool}
+use Rattle.std.proofs.lemmas.Bool.Decides.{nat_tests}
 use Rattle.units.specs.declared.quantity.Lots.{Lots}
 use Rattle.sharing.specs.declared.shares.Share.{Share}
 use Rattle.sharing.specs.declared.fault.SharingFault.{SharingFault}
-use Rattle.sharing.specs.declared.fault.SharingFault.TheVariants.{TooManyLines, LineTooLarge, TotalTooLarge}
 use Rattle.sharing.specs.Shares.{lots_of, most_lines, largest_line, Accepted, some_over, fault_in, or_fault, sum_or_fault, filled, unless_fault, lines_after}
 
 -- an answer where there is no fault
@@ -25,37 +25,24 @@ fault_free (Some g) x y e = absurd (grind arith)
 -- no line is too large where each is at most the largest
 none_over : (lots : List ℕ) → AllByRecursion (λ x. x ≤ largest_line) lots → some_over lots ≡ false
 none_over [] a = refl
-none_over (x ∷ xs) a = or_from (ltb largest_line x) (some_over xs) (le-ltb largest_line x a.0) (none_over xs a.1)
+none_over (x ∷ xs) a = grind (arith, nat_tests, a.0, none_over xs a.1)
 
 -- and the other way round
 all_small : (lots : List ℕ) → some_over lots ≡ false → AllByRecursion (λ x. x ≤ largest_line) lots
 all_small [] e = tt
-all_small (x ∷ xs) e =
-    let p = or_parts (ltb largest_line x) (some_over xs) e in (ltb-false largest_line x p.0, all_small xs p.1)
+all_small (x ∷ xs) e = (grind (arith, nat_tests, cases_Bool), all_small xs (grind (arith, cases_Bool)))
 
 -- what can be shared out has no fault
 pub no_fault : (lots : List ℕ) (n : ℕ) → Accepted lots n → fault_in lots n ≡ None
-no_fault lots n a =
-    let t = le-ltb most_lines (length lots) a.few in
-    let o = none_over lots a.small in
-    let u = le-ltb (sum lots) n a.reached in
-    simp (t, o, u)
+no_fault lots n a = grind (arith, nat_tests, a.few, none_over lots a.small, a.reached)
 
 -- and where there is no fault, all can be shared out
 pub accepted : (lots : List ℕ) (n : ℕ) → fault_in lots n ≡ None → Accepted lots n
-accepted lots n e =
-    by (ltb most_lines (length lots)) (some_over lots) (ltb (sum lots) n) refl refl refl e
-  where
-    by :
-        (a b c : Bool) → ltb most_lines (length lots) ≡ a → some_over lots ≡ b → ltb (sum lots) n ≡ c →
-        cond a (Some TooManyLines) (cond b (Some LineTooLarge) (cond c (Some TotalTooLarge) None)) ≡ None →
-        Accepted lots n
-    by true b c p q r f = absurd (grind arith)
-    by false true c p q r f = absurd (grind arith)
-    by false false true p q r f = absurd (grind arith)
-    by false false false p q r f =
-        record
-        { few = ltb-false most_lines (length lots) p; small = all_small lots q; reached = ltb-false (sum lots) n r }
+accepted lots n e = record {
+  few = grind (arith, nat_tests, cases_Bool);
+  small = all_small lots (grind (arith, cases_Bool));
+  reached = grind (arith, nat_tests, cases_Bool);
+}
 
 -- what the check tells where it lets a call pass
 pub check_passed :

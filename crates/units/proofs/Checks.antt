@@ -1,11 +1,11 @@
 -- What an answer that is put together by checks tells.
-use Rattle.std.proofs.Common.{◌≡◌, ℕ, Bool, true, false, Ok, Err, Result, refl, ap, arith}
+use Rattle.std.proofs.Common.{◌≡◌, Bool, true, false, Ok, Err, Result, refl, ap, arith}
 use Rattle.units.specs.Answers.{check, if_ok}
 
 -- an accepted answer: the test held, and the answer is the next one
 pub checked_ok : {T E : Type 0} (test : Bool) (refusal : E) (next : Result T E) (x : T) → Ok x ≡ check test refusal next → (test ≡ true) × (Ok x ≡ next)
 checked_ok true refusal next x e = (refl, e)
-checked_ok false refusal next x e = let z : ◌≡◌ {A = ℕ} 0 1 = cc in absurd (omega arith)
+checked_ok false refusal next x e = absurd (grind arith)
 
 -- the value in an accepted answer
 pub ok_value : {T E : Type 0} (x y : T) → ◌≡◌ {A = Result T E} (Ok x) (Ok y) → x ≡ y
@@ -19,4 +19,4 @@ pub accepted_makes : {T E X : Type 0} (r : Result T E) (answer : T) (new old : X
 accepted_makes {T} {E} r answer new old e = ap (λ (x : Result T E). if_ok x new old) e
 
 pub ok_not_err : {T E : Type 0} (r : Result T E) (x : T) (refusal : E) → r ≡ Ok x → r ≡ Err refusal → ⊥
-ok_not_err r x refusal a b = let z : ◌≡◌ {A = ℕ} 0 1 = cc in omega arith
+ok_not_err r x refusal a b = grind arith

@@ -1,12 +1,7 @@
 use Rattle.std.proofs.Common.{◌≤◌, length, sym, ◌∙◌, arith}
-use Rattle.sharing.proofs.Lines.{blank}
-use Rattle.sharing.specs.Walks.{walk_more, walk_all}
+use Rattle.sharing.specs.Walks.{walk_all}
 use Rattle.sharing.specs.TimeLaws.{time_write, time_next, time_walk}
 use Rattle.sharing.proofs.by_time.fill_by_time.Goals as goal
-
-pub loop-line-preserved : goal.loop-line-preserved
-loop-line-preserved c =
-    rw (c.take-line.ensures.taken, c.take-line.ensures.rest) (walk_more time_write time_next c.loop-line.lines c.loop-line.line-index c.loop-line.left.0 blank (omega arith) ∙ c.loop-line.invariant)
 
 pub returns : goal.returns
 returns c =

@@ -1,12 +1,7 @@
 use Rattle.std.proofs.Common.{◌≤◌, length, sym, ◌∙◌, arith}
-use Rattle.sharing.proofs.Lines.{blank}
-use Rattle.sharing.specs.Walks.{walk_more, walk_all}
+use Rattle.sharing.specs.Walks.{walk_all}
 use Rattle.sharing.proofs.RataPasses.{top_write, top_next, top_walk}
 use Rattle.sharing.proofs.pro_rata.hand_out.Goals as goal
-
-pub loop-line-preserved : goal.loop-line-preserved
-loop-line-preserved c =
-    rw (c.take-extra.ensures.taken, c.take-extra.ensures.rest, c.room.ensures.answer) (walk_more top_write top_next c.loop-line.lines c.loop-line.line-index c.loop-line.left.0 blank (omega arith) ∙ c.loop-line.invariant)
 
 pub returns : goal.returns
 returns c =
