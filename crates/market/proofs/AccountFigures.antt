@@ -1,7 +1,8 @@
 -- What blocking and releasing do to a figure of everybody's account.
-use Rattle.std.proofs.Common.{◌≡◌, ℕ, ◌+◌, ◌-◌, ◌≤◌, Bool, true, false, cond, eqb, List, length, get_or, Ok, Err, Result, sym, refl, ap, ◌∙◌, subst, inl, inr, arith}
+use Rattle.std.proofs.Common.{◌≡◌, ℕ, ◌+◌, ◌-◌, ◌≤◌, Bool, true, false, cond, eqb, List, length, Ok, Err, Result, sym, refl, ap, ◌∙◌, subst, inl, inr, arith}
 use Rattle.std.proofs.lemmas.List.{length-set, get_or-set_same, get_or-set_other}
-use Rattle.std.proofs.lemmas.Bool.{and_parts, leb-true, le-leb, eqb-true, eqb-false, cases_Bool}
+use Rattle.std.proofs.lemmas.Bool.{leb-true, le-leb, eqb-true, cases_Bool}
+use Rattle.std.proofs.lemmas.Bool.Decides.{nat_tests}
 use Rattle.units.specs.Answers.{check, if_ok}
 use Rattle.units.specs.Ranges.{is_participant}
 use Rattle.units.specs.declared.participant.Participant.{Participant}
@@ -17,34 +18,21 @@ use Rattle.depository.specs.Calls.{block_answer, block_after, release_answer, re
 use Rattle.depository.proofs.Totals.{place_known}
 use Rattle.market.specs.Orders.{in_lots, in_money}
 
--- two participants with the same place among the accounts have the same number
-same_place : (p q : Participant) → is_participant p ≡ true → is_participant q ≡ true → q.0 - 1 ≡ p.0 - 1 → p.0 ≡ q.0
-same_place p q kp kq e =
-    let lp = leb-true 1 p.0 (and_parts _ _ kp).0 in
-    let lq = leb-true 1 q.0 (and_parts _ _ kq).0 in
-    omega arith
-
 -- everybody's account where one participant's own is changed: what holds of the changed one in the place of the own, and of
 -- the others as they were
-pub of-changed : (accounts : List Account) → length accounts ≡ 64 → (who p : Participant) → is_participant who ≡ true → is_participant p ≡ true →
-    (change : Account → Account) (P : Bool → Account → Type 0) → (of accounts who ≡ of accounts p → P true (change (of accounts p))) → P false (of accounts p) →
+of-changed : (accounts : List Account) → length accounts ≡ 64 → (who p : Participant) → is_participant who ≡ true → is_participant p ≡ true →
+    (change : Account → Account) (P : Bool → Account → Type 0) → (who ≡ p → P true (change (of accounts p))) → P false (of accounts p) →
     P (eqb who.0 p.0) (of (changed accounts who change) p)
 of-changed accounts long who p kw kp change P own other =
     elim (cases_Bool (eqb who.0 p.0)) [
-      | inl e ↦ rw (e, at_own (eqb-true _ _ e)) (own (same (eqb-true _ _ e)))
-      | inr e ↦ rw (e, at_other (eqb-false _ _ e)) other
+      | inl e ↦
+          let same : who ≡ p = ap (λ n. record { 0 = n }) (eqb-true _ _ e) in
+          let there = get_or-set_same accounts (p.0 - 1) (change (of accounts p)) empty (place_known accounts long p kp) in
+          rw e (subst (λ w. P true (of (changed accounts w change) p)) (sym same) (rw there (own same)))
+      | inr e ↦
+          let apart = get_or-set_other accounts (who.0 - 1) (p.0 - 1) (change (of accounts who)) empty (grind (arith, nat_tests)) in
+          rw (e, apart) other
     ]
-  where
-    same : who.0 ≡ p.0 → of accounts who ≡ of accounts p
-    same e = ap (λ n. get_or accounts (n - 1) empty) e
-
-    at_own : who.0 ≡ p.0 → of (changed accounts who change) p ≡ change (of accounts p)
-    at_own e =
-        let Changed : ℕ → Type 0 = λ n. get_or (changed accounts who change) (n - 1) empty ≡ change (get_or accounts (n - 1) empty) in
-        subst Changed e (get_or-set_same accounts (who.0 - 1) (change (of accounts who)) empty (place_known accounts long who kw))
-
-    at_other : (who.0 ≡ p.0 → ⊥) → of (changed accounts who change) p ≡ of accounts p
-    at_other ne = get_or-set_other accounts (who.0 - 1) (p.0 - 1) (change (of accounts who)) empty (λ e. ne (same_place who p kw kp e))
 
 -- an accepted answer of two checks: both tests held
 both_passed : (known test : Bool) (e f : DepositoryFault) → check known e (check test f (Ok (tt {0}))) ≡ Ok tt → (known ≡ true) × (test ≡ true)
@@ -108,11 +96,8 @@ money_held_stays (Money n) a = (λ free. omega (arith, leb-true _ _ free), λ th
 -- what is blocked can be released
 pub release_passes : (accounts : List Account) (who : Participant) → is_participant who ≡ true → (x : Amount) →
     in_lots x ≤ lots_blocked (of accounts who) → in_money x ≤ money_blocked (of accounts who) → release_answer accounts who x ≡ Ok tt
-release_passes accounts who known x lots money = let there = blocked_there x (of accounts who) lots money in simp (known, there)
-  where
-    blocked_there : (x : Amount) (a : Account) → in_lots x ≤ lots_blocked a → in_money x ≤ money_blocked a → has_blocked x a ≡ true
-    blocked_there (Lots n) a lots money = le-leb _ _ lots
-    blocked_there (Money n) a lots money = le-leb _ _ money
+release_passes accounts who known (Lots n) lots money = let there = le-leb n.0 (lots_blocked (of accounts who)) lots in simp (known, there)
+release_passes accounts who known (Money n) lots money = let there = le-leb n.0 (money_blocked (of accounts who)) money in simp (known, there)
 
 -- no account comes or goes
 changed_long : {T E : Type 0} (answer : Result T E) (accounts : List Account) (who : Participant) (change : Account → Account) →

@@ -1,14 +1,11 @@
 -- What entering and annulling orders do to the accounts.
-use Rattle.std.proofs.Common.{◌≡◌, ℕ, ◌+◌, ◌-◌, ◌≤◌, Bool, true, false, cond, not, eqb, List, [], ◌∷◌, ◌++◌, length, Ok, sym, refl, ap, ◌∙◌, arith}
+use Rattle.std.proofs.Common.{◌≡◌, ℕ, ◌+◌, ◌-◌, ◌≤◌, true, cond, not, eqb, List, [], ◌∷◌, length, Ok, sym, refl, ap, ◌∙◌, arith}
 use Rattle.std.specs.List.{AllByRecursion}
 use Rattle.std.proofs.lemmas.List.Elements.{filter-append}
 use Rattle.std.proofs.ByRecursion.{all_kept_by, All-weaker}
 use Rattle.std.proofs.lemmas.Bool.{eq-eqb, eqb-true}
-use Rattle.ordered_list.specs.Order.{placed}
 use Rattle.units.specs.Ranges.{is_participant}
 use Rattle.units.specs.declared.participant.Participant.{Participant}
-use Rattle.units.specs.declared.side.Side.{Side}
-use Rattle.units.specs.declared.side.Side.TheVariants.{Sell, Buy}
 use Rattle.depository.specs.declared.account.Account.{Account}
 use Rattle.depository.specs.declared.amount.Amount.{Amount}
 use Rattle.depository.specs.Accounts.{of, lots_held, money_held}
@@ -17,12 +14,13 @@ use Rattle.depository.proofs.Totals.{one_in_all}
 use Rattle.market.specs.declared.order.Order.{Order}
 use Rattle.market.specs.declared.order.Resting.{Resting}
 use Rattle.market.specs.declared.phase.Phase.TheVariants.{Gathering}
-use Rattle.market.specs.Orders.{total, total_if, number_of, owner_of, queue_after, cover_for, cover_of, in_lots, in_money}
+use Rattle.market.specs.Orders.{total_if, number_of, owner_of, cover_for, cover_of, in_lots, in_money}
 use Rattle.market.specs.State.{State, empty_in, waiting}
-use Rattle.market.specs.Calls.{nothing_blocked, joined_by, entered, entries_of, released, annulled}
+use Rattle.market.specs.Calls.{nothing_blocked, entered, entries_of, released, annulled}
 use Rattle.market.specs.Law.{Covered}
-use Rattle.market.proofs.Totals.{total-append, total-placed, total_parted}
-use Rattle.market.proofs.AccountFigures.{Follows, after_block, after_release, lots_blocked, money_blocked, blocked_lots_follow, blocked_money_follows, no_part, lots_held_stay, money_held_stays, release_passes, block_long, release_long}
+use Rattle.market.proofs.Totals.{total_moved, total_none, total_parted}
+use Rattle.market.proofs.QueueEntries.{all_both, moved-joined}
+use Rattle.market.proofs.AccountFigures.{Follows, after_block, after_release, lots_blocked, money_blocked, blocked_lots_follow, blocked_money_follows, no_part, lots_held_stay, money_held_stays, release_passes, release_long}
 
 -- waiting orders of participants of the market
 abbrev pub Known : List Resting → Type 0
@@ -30,15 +28,9 @@ Known q = AllByRecursion (λ e. is_participant e.order.participant ≡ true) q
 
 -- NO ACCOUNT COMES OR GOES
 
-pub everyone-entered : (s : State) (o : Order) → length s.accounts ≡ 64 → length (entered s o).accounts ≡ 64
-everyone-entered s o long = block_long s.accounts o.participant (cover_for o.side o.limit o.accepted) long
-
-everyone-released : (accounts : List Account) (es : List Resting) → length accounts ≡ 64 → length (released accounts es) ≡ 64
+pub everyone-released : (accounts : List Account) (es : List Resting) → length accounts ≡ 64 → length (released accounts es) ≡ 64
 everyone-released accounts [] long = long
 everyone-released accounts (e ∷ es) long = everyone-released (release_after accounts e.order.participant (cover_of e)) es (release_long accounts e.order.participant (cover_of e) long)
-
-pub everyone-annulled : (n : ℕ) (s : State) → length s.accounts ≡ 64 → length (annulled n s).accounts ≡ 64
-everyone-annulled n s long = everyone-released s.accounts (entries_of n (waiting s)) long
 
 -- OPENING
 
@@ -54,17 +46,6 @@ covered-opened accounts none p known =
 abbrev needed : (Amount → ℕ) → ℕ → List Resting → ℕ
 needed part p q = total_if (λ e. eqb (owner_of e) p) (λ e. part (cover_of e)) q
 
--- one more waits, whatever its side
-total_joined : (f : Resting → ℕ) (side : Side) (e : Resting) (sells buys : List Resting) →
-    total f (joined_by Sell side e sells ++ joined_by Buy side e buys) ≡ f e + total f (sells ++ buys)
-total_joined f Sell e sells buys = omega (arith, total-append f (placed queue_after e sells) buys, total-placed f queue_after e sells, total-append f sells buys)
-total_joined f Buy e sells buys = omega (arith, total-append f sells (placed queue_after e buys), total-placed f queue_after e buys, total-append f sells buys)
-
--- no part, own or not, is nothing
-none_for : (own : Bool) → ◌≡◌ {A = ℕ} (cond own 0 0) 0
-none_for true = refl
-none_for false = refl
-
 module _ (s : State) (o : Order) (long : length s.accounts ≡ 64)
     (accepted : block_answer s.accounts o.participant (cover_for o.side o.limit o.accepted) ≡ Ok tt)
     (p : Participant) (known : is_participant p ≡ true) where
@@ -77,26 +58,27 @@ module _ (s : State) (o : Order) (long : length s.accounts ≡ 64)
   needed_entered : (figure : Account → ℕ) (part : Amount → ℕ) → Follows figure part → figure (of s.accounts p) ≡ needed part p.0 (waiting s) →
       figure (of (entered s o).accounts p) ≡ needed part p.0 (waiting (entered s o))
   needed_entered figure part follows covered =
-      let waits = total_joined (λ e. cond (eqb (owner_of e) p.0) (part (cover_of e)) 0) o.side (record { order = o; lots = o.accepted }) s.sells s.buys in
+      let entry : Resting = record { order = o; lots = o.accepted } in
+      let waits = total_moved (λ e. cond (eqb (owner_of e) p.0) (part (cover_of e)) 0) (entry ∷ waiting s) (waiting (entered s o)) (moved-joined o.side entry s.sells s.buys) in
       omega (arith, waits, after_entered figure part follows)
 
   -- and one that follows by nothing is the same
   same_entered : (figure : Account → ℕ) → Follows figure no_part → figure (of (entered s o).accounts p) ≡ figure (of s.accounts p)
-  same_entered figure follows = omega (arith, after_entered figure no_part follows, none_for (eqb o.participant.0 p.0))
+  same_entered figure follows = grind (arith, after_entered figure no_part follows)
 
 -- an accepted order is covered, and everybody else's orders still are
-pub covered-entered : (s : State) (o : Order) → length s.accounts ≡ 64 → is_participant o.participant ≡ true →
+pub covered-entered : (s : State) (o : Order) → length s.accounts ≡ 64 →
     block_answer s.accounts o.participant (cover_for o.side o.limit o.accepted) ≡ Ok tt → Covered s → Covered (entered s o)
-covered-entered s o long _ accepted covered p known = (
+covered-entered s o long accepted covered p known = (
   needed_entered s o long accepted p known lots_blocked in_lots blocked_lots_follow (covered p known).0,
   needed_entered s o long accepted p known money_blocked in_money blocked_money_follows (covered p known).1,
 )
 
 -- nobody's holdings change
-pub held_entered : (s : State) (o : Order) → length s.accounts ≡ 64 → is_participant o.participant ≡ true →
+pub held_entered : (s : State) (o : Order) → length s.accounts ≡ 64 →
     block_answer s.accounts o.participant (cover_for o.side o.limit o.accepted) ≡ Ok tt → (p : Participant) → is_participant p ≡ true →
     (lots_held (of (entered s o).accounts p) ≡ lots_held (of s.accounts p)) × (money_held (of (entered s o).accounts p) ≡ money_held (of s.accounts p))
-held_entered s o long _ accepted p known =
+held_entered s o long accepted p known =
     (same_entered s o long accepted p known lots_held lots_held_stay, same_entered s o long accepted p known money_held money_held_stays)
 
 -- RELEASING
@@ -117,15 +99,12 @@ one_needed (e ∷ q) = (own, All-weaker _ _ (λ x less part. omega (arith, less 
 -- so where there is enough for all, there is enough to release each
 each_passes : (accounts : List Account) (q : List Resting) → Enough accounts q → Known q →
     AllByRecursion (λ e. release_answer accounts e.order.participant (cover_of e) ≡ Ok tt) q
-each_passes accounts q enough known = each q known (one_needed q)
-  where
-    each : (es : List Resting) → Known es → AllByRecursion (λ e. (part : Amount → ℕ) → part (cover_of e) ≤ needed part (owner_of e) q) es →
-        AllByRecursion (λ e. release_answer accounts e.order.participant (cover_of e) ≡ Ok tt) es
-    each [] known less = tt
-    each (e ∷ es) known less =
-        let who = e.order.participant in
-        let there = enough who known.0 in
-        (release_passes accounts who known.0 (cover_of e) (omega (arith, less.0 in_lots)) (omega (arith, less.0 in_money)), each es known.1 less.1)
+each_passes accounts q enough known =
+    all_both (λ e. is_participant e.order.participant ≡ true) (λ e. (part : Amount → ℕ) → part (cover_of e) ≤ needed part (owner_of e) q)
+    (λ e. release_answer accounts e.order.participant (cover_of e) ≡ Ok tt)
+    (λ e who less.
+    let there = enough e.order.participant who in
+    release_passes accounts e.order.participant who (cover_of e) (omega (arith, less in_lots)) (omega (arith, less in_money))) q known (one_needed q)
 
 -- the cover of each waiting order can be released
 pub release_accepted : (s : State) → Covered s → Known (waiting s) → AllByRecursion (λ e. release_answer s.accounts e.order.participant (cover_of e) ≡ Ok tt) (waiting s)
@@ -160,8 +139,7 @@ needed_parted part p n s =
     ∙ total_parted (λ e. cond (eqb (owner_of e) p) (part (cover_of e)) 0) (λ e. eqb (number_of e) n) (waiting s)
 
 none_needed : (p : ℕ) (q : List Resting) → needed no_part p q ≡ 0
-none_needed p [] = refl
-none_needed p (e ∷ q) = omega (arith, none_for (eqb (owner_of e) p), none_needed p q)
+none_needed p q = total_none (λ e. cond (eqb (owner_of e) p) 0 0) q (λ k d low. grind arith)
 
 -- what the annulled entries need goes from everybody's figure
 after_annulled : (figure : Account → ℕ) (part : Amount → ℕ) → Follows figure part →

@@ -1,8 +1,9 @@
 -- The books are right in a session that opens, and they stay right as an order is entered and as orders are annulled.
-use Rattle.std.proofs.Common.{◌≡◌, ℕ, Bool, true, false, cond, not, eqb, ltb, List, [], ◌∷◌, length, Ok, Err, sym, refl, ap, subst, arith}
-use Rattle.std.specs.List.{ContainsAt as Has, AllByRecursion}
-use Rattle.std.proofs.ByRecursion.{all-has, all_kept_by, All-weaker}
-use Rattle.std.proofs.lemmas.Bool.{ltb-true, not-true}
+use Rattle.std.proofs.Common.{◌≡◌, ℕ, ◌<◌, ◌≤◌, map, Contains, true, cond, not, eqb, ltb, List, [], ◌∷◌, length, Ok, Err, sym, refl, ap, subst, arith}
+use Rattle.std.specs.List.{AllByRecursion}
+use Rattle.std.proofs.ByRecursion.{all_kept_by, All-append, All-map, All-weaker}
+use Rattle.std.proofs.lemmas.List.Elements.{All-contains, All-from_recursion}
+use Rattle.std.proofs.lemmas.Bool.{ltb-true, cond_both}
 use Rattle.units.specs.Answers.{given, raised}
 use Rattle.units.specs.Ranges.{is_participant, is_price, is_order_size}
 use Rattle.units.specs.declared.participant.Participant.{Participant}
@@ -15,23 +16,26 @@ use Rattle.depository.specs.declared.account.Account.{Account}
 use Rattle.market.specs.declared.order.Order.{Order}
 use Rattle.market.specs.declared.order.OrderNumber.{OrderNumber}
 use Rattle.market.specs.declared.order.Resting.{Resting}
+use Rattle.market.specs.declared.deal.Cancellation.{Cancellation}
 use Rattle.market.specs.declared.fault.SessionFault.TheVariants.{NoParticipant, PriceOutOfRange, LotsOutOfRange, SessionFull, OwnOrderInTheWay, WrongPhase, Depository}
 use Rattle.market.specs.declared.phase.Phase.{Phase}
 use Rattle.market.specs.declared.phase.Phase.TheVariants.{Gathering, Closed}
-use Rattle.market.specs.Orders.{number_of, cover_for, cover_of}
+use Rattle.market.specs.Orders.{number_of, lots_of, queue_after, cover_for, cover_of}
 use Rattle.market.specs.State.{State, empty_in, in_phase, waiting, is_gathering}
-use Rattle.market.specs.Calls.{nothing_blocked, opened, most_orders, next_order, own_in_the_way, submit_answer, entered, entries_of, annulled, annulled_each}
-use Rattle.market.specs.Law.{InRange, Books, Kept, NewlyOpened}
-use Rattle.market.proofs.Entering.{few_entered, numbered-entered, in_range-entered, recorded-entered, lots_wait-entered, distinct-entered, selling-entered, buying-entered, sells_in_order-entered, buys_in_order-entered, deals_known-entered, cancellations_known-entered, balanced-entered}
-use Rattle.market.proofs.Annulling.{recorded-annulled, lots_wait-annulled, distinct-annulled, selling-annulled, buying-annulled, sells_in_order-annulled, buys_in_order-annulled, deals_known-annulled, cancellations_known-annulled, balanced-annulled}
-use Rattle.market.proofs.Accounting.{everyone-entered, everyone-annulled, covered-opened, covered-entered, covered-annulled, release_accepted}
+use Rattle.market.specs.Calls.{nothing_blocked, opened, cancellation_of, most_orders, next_order, own_in_the_way, submit_answer, entered, entries_of, annulled, annulled_each}
+use Rattle.market.specs.Law.{InRange, Distinct, BalancedOrder, Books, Kept, NewlyOpened}
+use Rattle.market.proofs.OrderNumbers.{waiting-known}
+use Rattle.market.proofs.QueueEntries.{order_kept_by, distinct_kept_by}
+use Rattle.market.proofs.Entering.{entered-books}
+use Rattle.market.proofs.Annulling.{stays, waiting-annulled, all_left, balanced_order}
+use Rattle.market.proofs.Accounting.{everyone-released, covered-opened, covered-annulled, release_accepted}
 
 -- WHAT WAITS is of orders that submit checked
 
 -- a fact of each order on record is one of each waiting order
 of-waiting : (P : Order → Type 0) (s : State) → Books s → ((o : Order) → InRange o → P o) → AllByRecursion (λ e. P e.order) (waiting s)
-of-waiting P s b f = All-weaker (λ (e : Resting). Has s.orders e.order) (λ (e : Resting). P e.order)
-    (λ e h. f e.order (all-has InRange s.orders e.order b.in_range h)) (waiting s) b.recorded
+of-waiting P s b f = All-weaker (λ (e : Resting). Contains s.orders e.order) (λ (e : Resting). P e.order)
+    (λ e h. f e.order (All-contains InRange s.orders e.order (All-from_recursion InRange s.orders b.in_range) h)) (waiting s) b.recorded
 
 pub known-waiting : (s : State) → Books s → AllByRecursion (λ e. is_participant e.order.participant ≡ true) (waiting s)
 known-waiting s b = of-waiting (λ o. is_participant o.participant ≡ true) s b (λ o r. r.0)
@@ -61,11 +65,8 @@ books-opened accounts long none = record {
 }
 
 pub kept_opened : (accounts : List Account) → length accounts ≡ 64 → Kept (opened accounts)
-kept_opened accounts long = by (nothing_blocked accounts) refl
-  where
-    by : (none : Bool) → nothing_blocked accounts ≡ none → Kept (empty_in (cond none Gathering Closed) accounts)
-    by true e = books-opened accounts long e
-    by false e = (refl, refl)
+kept_opened accounts long =
+    cond_both (nothing_blocked accounts) Gathering Closed (λ phase. Kept (empty_in phase accounts)) (λ none. books-opened accounts long none) (λ some. (refl, refl))
 
 pub newly_opened : (accounts : List Account) → length accounts ≡ 64 → nothing_blocked accounts ≡ true → NewlyOpened (opened accounts)
 newly_opened accounts long none = record {
@@ -79,17 +80,14 @@ newly_opened accounts long none = record {
 -- what an accepted submit tells
 pub record Admitted (s : State) (who : Participant) (side : Side) (limit : Price) (lots : Lots) : Type 0 where
   pub gathering : is_gathering s.phase ≡ true
-  pub known : is_participant who ≡ true
-  pub priced : is_price limit ≡ true
-  pub sized : is_order_size lots ≡ true
-  pub room : ltb (length s.orders) most_orders ≡ true
-  pub none_in_the_way : own_in_the_way s who side limit ≡ false
+  pub range : InRange (next_order s who side limit lots)
+  pub room : length s.orders < most_orders
   pub blocked : block_answer s.accounts who (cover_for side limit lots) ≡ Ok tt
 
 -- an answer that is given where the depository accepts
 was_accepted : (answer : Done) (n m : OrderNumber) → Ok n ≡ given (raised Depository answer) m → answer ≡ Ok tt
 was_accepted (Ok u) n m e = refl
-was_accepted (Err refusal) n m e = let z : ◌≡◌ {A = ℕ} 0 1 = cc in absurd (omega arith)
+was_accepted (Err refusal) n m e = cc
 
 pub admitted : (s : State) (who : Participant) (side : Side) (limit : Price) (lots : Lots) (n : OrderNumber) → submit_answer s who side limit lots ≡ Ok n →
     Admitted s who side limit lots
@@ -102,11 +100,8 @@ admitted s who side limit lots n e =
     let free = checked_ok (not (own_in_the_way s who side limit)) OwnOrderInTheWay _ n fits.1 in
     record {
       gathering = gathers.0;
-      known = knows.0;
-      priced = prices.0;
-      sized = sizes.0;
-      room = fits.0;
-      none_in_the_way = not-true (own_in_the_way s who side limit) free.0;
+      range = (knows.0, (prices.0, sizes.0));
+      room = ltb-true (length s.orders) most_orders fits.0;
       blocked = was_accepted (block_answer s.accounts who (cover_for side limit lots)) n (next_order s who side limit lots).number free.1;
     }
 
@@ -114,25 +109,7 @@ pub books-entered : (s : State) (who : Participant) (side : Side) (limit : Price
     submit_answer s who side limit lots ≡ Ok n → Books s → Books (entered s (next_order s who side limit lots))
 books-entered s who side limit lots n e b =
     let a = admitted s who side limit lots n e in
-    let o = next_order s who side limit lots in
-    let range : InRange o = (a.known, (a.priced, a.sized)) in
-    record {
-      everyone = everyone-entered s o b.everyone;
-      few = few_entered s o (ltb-true (length s.orders) 512 a.room);
-      numbered = numbered-entered s o refl b.numbered;
-      in_range = in_range-entered s o range b.in_range;
-      recorded = recorded-entered s o b.recorded;
-      lots_wait = lots_wait-entered s o range b.lots_wait;
-      distinct = distinct-entered s o refl b.numbered b.recorded b.distinct;
-      selling = selling-entered s o b.selling;
-      buying = buying-entered s o b.buying;
-      sells_in_order = sells_in_order-entered s o b.sells_in_order;
-      buys_in_order = buys_in_order-entered s o b.buys_in_order;
-      deals_known = deals_known-entered s o b.deals_known;
-      cancellations_known = cancellations_known-entered s o b.cancellations_known;
-      balanced = balanced-entered s o refl b.numbered b.recorded b.deals_known b.cancellations_known b.balanced;
-      covered = covered-entered s o b.everyone a.known a.blocked b.covered;
-    }
+    entered-books s (next_order s who side limit lots) refl b a.range a.room a.blocked
 
 -- ANNULLING
 
@@ -145,23 +122,27 @@ release_passes_one s n e b one =
     (subst (AllByRecursion Passes) one each).0
 
 pub books-annulled : (n : ℕ) (s : State) → Books s → Books (annulled n s)
-books-annulled n s b = record {
-  everyone = everyone-annulled n s b.everyone;
-  few = b.few;
-  numbered = b.numbered;
-  in_range = b.in_range;
-  recorded = recorded-annulled n s b.recorded;
-  lots_wait = lots_wait-annulled n s b.lots_wait;
-  distinct = distinct-annulled n s b.distinct;
-  selling = selling-annulled n s b.selling;
-  buying = buying-annulled n s b.buying;
-  sells_in_order = sells_in_order-annulled n s b.sells_in_order;
-  buys_in_order = buys_in_order-annulled n s b.buys_in_order;
-  deals_known = deals_known-annulled n s b.deals_known;
-  cancellations_known = cancellations_known-annulled n s b.numbered b.recorded b.cancellations_known;
-  balanced = balanced-annulled n s b.balanced;
-  covered = covered-annulled n s b.everyone (known-waiting s b) b.covered;
-}
+books-annulled n s b =
+    let gone = entries_of n (waiting s) in
+    let Known : Cancellation → Type 0 = λ c. c.order.0 ≤ length s.orders in
+    record {
+      everyone = everyone-released s.accounts gone b.everyone;
+      few = b.few;
+      numbered = b.numbered;
+      in_range = b.in_range;
+      recorded = all_left (λ e. Contains s.orders e.order) n s b.recorded;
+      lots_wait = all_left (λ e. (0 < lots_of e) × (lots_of e ≤ e.order.accepted.0)) n s b.lots_wait;
+      distinct = subst Distinct (sym (waiting-annulled n s)) (distinct_kept_by (stays n) (waiting s) b.distinct);
+      selling = all_kept_by (stays n) _ s.sells b.selling;
+      buying = all_kept_by (stays n) _ s.buys b.buying;
+      sells_in_order = order_kept_by queue_after (stays n) s.sells b.sells_in_order;
+      buys_in_order = order_kept_by queue_after (stays n) s.buys b.buys_in_order;
+      deals_known = b.deals_known;
+      cancellations_known = All-append Known s.cancellations (map cancellation_of gone) b.cancellations_known
+          (All-map Known cancellation_of gone (all_kept_by _ _ (waiting s) (waiting-known s b)));
+      balanced = All-weaker (BalancedOrder s) (BalancedOrder (annulled n s)) (balanced_order n s) s.orders b.balanced;
+      covered = covered-annulled n s b.everyone (known-waiting s b) b.covered;
+    }
 
 pub books_each : (os : List Order) (s : State) → Books s → Books (annulled_each os s)
 books_each [] s b = b

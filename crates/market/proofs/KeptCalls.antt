@@ -1,6 +1,6 @@
 -- Every call leaves what it relies on, whatever the phase.
-use Rattle.std.proofs.Common.{◌≡◌, ℕ, Bool, true, false, cond, Some, None, Ok, Err, Option, Result, sym, refl, ap, ◌∙◌}
-use Rattle.std.proofs.lemmas.Bool.{false≢true, cond_both}
+use Rattle.std.proofs.Common.{◌≡◌, ℕ, Bool, true, false, Some, None, Ok, Err, Option, Result, sym, refl, ap, ◌∙◌}
+use Rattle.std.proofs.lemmas.Bool.{false≢true, both_ways, cond_both}
 use Rattle.units.specs.Answers.{if_ok}
 use Rattle.units.specs.declared.participant.Participant.{Participant}
 use Rattle.units.specs.declared.quantity.Price.{Price}
@@ -31,23 +31,18 @@ if_ok_lem (Err refusal) new old P accepted refused = refused
 
 -- BY THE PHASE
 
-pub gathering_trades : (p : Phase) → is_gathering p ≡ true → is_trading p ≡ true
+gathering_trades : (p : Phase) → is_gathering p ≡ true → is_trading p ≡ true
 gathering_trades Gathering t = refl
 gathering_trades (Struck c) t = absurd (false≢true t)
 gathering_trades Continuous t = refl
 gathering_trades Closed t = absurd (false≢true t)
 
-trading_in : (p : Phase) (s : State) → KeptIn p s → is_trading p ≡ true → Books s
-trading_in Gathering s k t = k
-trading_in (Struck c) s k t = k.0
-trading_in Continuous s k t = k
-trading_in Closed s k t = absurd (false≢true t)
-
-struck_in : (p : Phase) (s : State) → KeptIn p s → is_struck p ≡ true → Books s
-struck_in Gathering s k t = k
-struck_in (Struck c) s k t = k.0
-struck_in Continuous s k t = k
-struck_in Closed s k t = absurd (false≢true t)
+-- the books are right in a phase that passes a test which Closed does not
+books_in : (test : Phase → Bool) → test Closed ≡ false → (p : Phase) (s : State) → KeptIn p s → test p ≡ true → Books s
+books_in test fails Gathering s k t = k
+books_in test fails (Struck c) s k t = k.0
+books_in test fails Continuous s k t = k
+books_in test fails Closed s k t = absurd (both_ways (test Closed) fails t)
 
 kept_in : (p : Phase) (s : State) → Books s → is_trading p ≡ true → KeptIn p s
 kept_in Gathering s b t = b
@@ -56,16 +51,16 @@ kept_in Continuous s b t = b
 kept_in Closed s b t = absurd (false≢true t)
 
 pub trading_books : (s : State) → Kept s → is_trading s.phase ≡ true → Books s
-trading_books s k t = trading_in s.phase s k t
+trading_books s k t = books_in is_trading refl s.phase s k t
 
 pub gathering-books : (s : State) → Kept s → is_gathering s.phase ≡ true → Books s
-gathering-books s k t = trading_books s k (gathering_trades s.phase t)
+gathering-books s k t = books_in is_gathering refl s.phase s k t
 
-pub struck_books : (s : State) → Kept s → is_struck s.phase ≡ true → Books s
-struck_books s k t = struck_in s.phase s k t
+struck_books : (s : State) → Kept s → is_struck s.phase ≡ true → Books s
+struck_books s k t = books_in is_struck refl s.phase s k t
 
 -- while orders can be withdrawn, right books are all that is kept
-pub trading_kept : (s : State) → Books s → is_trading s.phase ≡ true → Kept s
+trading_kept : (s : State) → Books s → is_trading s.phase ≡ true → Kept s
 trading_kept s b t = kept_in s.phase s b t
 
 -- all that waits is annulled
@@ -74,48 +69,39 @@ books-all s b = books_each s.orders s b
 
 -- CALL BY CALL
 
-pub kept_submit : (s : State) (who : Participant) (side : Side) (limit : Price) (lots : Lots) → Kept s → Kept (submit_after s who side limit lots)
-kept_submit s who side limit lots k = if_ok_lem (submit_answer s who side limit lots) (entered s (next_order s who side limit lots)) s Kept accepted k
-  where
-    accepted : (n : OrderNumber) → submit_answer s who side limit lots ≡ Ok n → Kept (entered s (next_order s who side limit lots))
-    accepted n e =
-        let gathers = (admitted s who side limit lots n e).gathering in
-        let books = books-entered s who side limit lots n e (gathering-books s k gathers) in
-        trading_kept (entered s (next_order s who side limit lots)) books (gathering_trades s.phase gathers)
+kept_submit : (s : State) (who : Participant) (side : Side) (limit : Price) (lots : Lots) → Kept s → Kept (submit_after s who side limit lots)
+kept_submit s who side limit lots k = if_ok_lem (submit_answer s who side limit lots) (entered s (next_order s who side limit lots)) s Kept
+    (λ n e.
+    let gathers = (admitted s who side limit lots n e).gathering in
+    let books = books-entered s who side limit lots n e (gathering-books s k gathers) in
+    trading_kept (entered s (next_order s who side limit lots)) books (gathering_trades s.phase gathers)) k
 
-pub kept_withdraw : (s : State) (who : Participant) (n : OrderNumber) → Kept s → Kept (withdraw_after s who n)
-kept_withdraw s who n k = if_ok_lem (withdraw_answer s who n) (annulled n.0 s) s Kept accepted k
-  where
-    accepted : (lots : Lots) → withdraw_answer s who n ≡ Ok lots → Kept (annulled n.0 s)
-    accepted lots e =
-        let trades = (checked_ok (is_trading s.phase) WrongPhase _ lots (sym e)).0 in
-        trading_kept (annulled n.0 s) (books-annulled n.0 s (trading_books s k trades)) trades
+kept_withdraw : (s : State) (who : Participant) (n : OrderNumber) → Kept s → Kept (withdraw_after s who n)
+kept_withdraw s who n k = if_ok_lem (withdraw_answer s who n) (annulled n.0 s) s Kept
+    (λ lots e.
+    let trades = (checked_ok (is_trading s.phase) WrongPhase _ lots (sym e)).0 in
+    trading_kept (annulled n.0 s) (books-annulled n.0 s (trading_books s k trades)) trades) k
 
 -- a cut-off that is found is at its best, and where there is none, Gathering goes on with nothing waiting
-pub kept_strike : (s : State) → Kept s → Kept (strike_after s)
+kept_strike : (s : State) → Kept s → Kept (strike_after s)
 kept_strike s k = if_ok_lem (strike_answer s) (struck_by (cut_off_found s.sells s.buys) s) s Kept
-    (λ found e. by (checked_ok (is_gathering s.phase) WrongPhase _ found (sym e)).0 (crosses s.sells s.buys) refl)
-    k
-  where
-    by : is_gathering s.phase ≡ true → (t : Bool) → crosses s.sells s.buys ≡ t → Kept (struck_by (cond t (Some (record { 0 = cut_off s.sells s.buys })) None) s)
-    by gathers true e =
-        let b = gathering-books s k gathers in
-        (books-phase (Struck (record { 0 = cut_off s.sells s.buys })) s b, at_best s.sells s.buys (priced-waiting s b) e)
-    by gathers false e =
-        trading_kept (all_annulled s) (books-all s (gathering-books s k gathers)) (ap is_trading (each_keeps s.orders s).2 ∙ gathering_trades s.phase gathers)
+    (λ answer e.
+    let gathers = (checked_ok (is_gathering s.phase) WrongPhase _ answer (sym e)).0 in
+    let b = gathering-books s k gathers in
+    let best : Price = record { 0 = cut_off s.sells s.buys } in
+    cond_both (crosses s.sells s.buys) (Some best) None (λ found. Kept (struck_by found s))
+    (λ cross. (books-phase (Struck best) s b, at_best s.sells s.buys (priced-waiting s b) cross))
+    (λ apart. trading_kept (all_annulled s) (books-all s b) (ap is_trading (each_keeps s.orders s).2 ∙ gathering_trades s.phase gathers))) k
 
-pub kept_annul : (s : State) → Kept s → Kept (annul_after s)
-kept_annul s k = if_ok_lem (annul_answer s) (in_phase Gathering (all_annulled s)) s Kept accepted k
-  where
-    accepted : (lots : Lots) → annul_answer s ≡ Ok lots → Books (in_phase Gathering (all_annulled s))
-    accepted lots e =
-        let struck = (checked_ok (is_struck s.phase) WrongPhase _ lots (sym e)).0 in
-        books-phase Gathering (all_annulled s) (books-all s (struck_books s k struck))
+kept_annul : (s : State) → Kept s → Kept (annul_after s)
+kept_annul s k = if_ok_lem (annul_answer s) (in_phase Gathering (all_annulled s)) s Kept
+    (λ lots e.
+    let struck = (checked_ok (is_struck s.phase) WrongPhase _ lots (sym e)).0 in
+    books-phase Gathering (all_annulled s) (books-all s (struck_books s k struck))) k
 
-pub kept_close : (s : State) → Kept s → Kept (close_after s)
+kept_close : (s : State) → Kept s → Kept (close_after s)
 kept_close s k = if_ok_lem (close_answer s) (in_phase Closed (all_annulled s)) s Kept
-    (λ lots e. all_gone s (trading_books s k (checked_ok (is_trading s.phase) WrongPhase _ lots (sym e)).0).recorded)
-    k
+    (λ lots e. all_gone s (trading_books s k (checked_ok (is_trading s.phase) WrongPhase _ lots (sym e)).0).recorded) k
 
 -- ANY CALL
 

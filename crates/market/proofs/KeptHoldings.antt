@@ -47,9 +47,7 @@ held_call call d b =
     let s = d.session in
     call_lasts (HeldAs s) call d (record {
       same = λ p known. (refl, refl);
-      enters = λ who side limit lots n e.
-          let a = admitted s who side limit lots n e in
-          held_entered s (next_order s who side limit lots) b.everyone a.known a.blocked;
+      enters = λ who side limit lots n e. held_entered s (next_order s who side limit lots) b.everyone (admitted s who side limit lots n e).blocked;
       annuls = λ n. held_one n s b;
       annuls_all = held_each s.orders s b;
       in_any_phase = λ p t same. same;

@@ -14,11 +14,14 @@ use Rattle.market.proofs.KeptHoldings.{HeldAs, held_then, deals_call, held_call}
 
 -- RUNS
 
--- a run, and one call more
+-- one run after another is a run, and so is a run with one call more
+run_join : (start : Desk) (xs : List (Call × Reply)) (mid : Desk) (ys : List (Call × Reply)) (end : Desk) → Run start xs mid → Run mid ys end → Run start (xs ++ ys) end
+run_join start [] mid ys end r q = subst (λ (d : Desk). Run d ys end) (sym r) q
+run_join start (x ∷ xs) mid ys end r q = (r.0, run_join (desk_after x.0 start) xs mid ys end r.1 q)
+
 pub run_push : (start : Desk) (made : List (Call × Reply)) (d : Desk) (call : Call) (reply : Reply) → Run start made d → reply ≡ answer_to call d →
     Run start (made ++ ((call, reply) ∷ [])) (desk_after call d)
-run_push start [] d call reply r e = subst (λ (x : Desk). Run x ((call, reply) ∷ []) (desk_after call d)) (sym r) (e, refl)
-run_push start (first ∷ made) d call reply r e = (r.0, run_push (desk_after first.0 start) made d call reply r.1 e)
+run_push start made d call reply r e = run_join start made d ((call, reply) ∷ []) (desk_after call d) r (e, refl)
 
 -- what each call leaves holds at the end of a run
 run_leaves : (P : State → Type 0) → ((call : Call) (d : Desk) → P d.session → P (session_after call d)) →
@@ -76,11 +79,6 @@ law opening made end new r =
       covered = since.books.covered;
       by_deals = held_by_deals opening end.session since;
     }
-
--- one run after another is a run
-run_join : (start : Desk) (xs : List (Call × Reply)) (mid : Desk) (ys : List (Call × Reply)) (end : Desk) → Run start xs mid → Run mid ys end → Run start (xs ++ ys) end
-run_join start [] mid ys end r q = subst (λ (d : Desk). Run d ys end) (sym r) q
-run_join start (x ∷ xs) mid ys end r q = (r.0, run_join (desk_after x.0 start) xs mid ys end r.1 q)
 
 -- what a kept session's run leads to is sound, if the session was reached from a newly opened one
 pub sound_from : (start : Desk) (made : List (Call × Reply)) (end : Desk) → (Kept start.session → Run start made end) → SoundFrom start end.session

@@ -1,11 +1,10 @@
 pub mod Totals
 pub mod OrderNumbers
 pub mod QueueEntries
-pub mod Entering
-pub mod Annulling
 pub mod AccountFigures
 pub mod Accounting
-pub mod PeakMembers
+pub mod Entering
+pub mod Annulling
 pub mod PeakBest
 pub mod PeakLimits
 pub mod PeakVolume

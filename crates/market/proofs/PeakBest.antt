@@ -1,99 +1,70 @@
--- The best of a list by a test, and the lowest and the highest of numbers.
-use Rattle.std.proofs.Common.{◌≡◌, ℕ, ◌≤◌, min, max, Bool, true, leb, ◌⊎◌, List, [], ◌∷◌, filter, refl, subst, inl, inr, arith}
-use Rattle.std.proofs.lemmas.Bool.{leb-true, le-leb, cases_lt}
-use Rattle.market.specs.Orders.{every}
+-- The best of a list of prices by a figure, and the lowest and the highest of them.
+use Rattle.std.proofs.Common.{◌≡◌, ℕ, ◌<◌, ◌≤◌, min, Bool, true, false, not, leb, List, [], ◌∷◌, length, get_or, filter, All, Contains, refl, subst, inl, inr, arith}
+use Rattle.std.specs.Cmp.{IsStrictWeakOrder}
+use Rattle.std.specs.List.{list_all}
+use Rattle.std.proofs.lemmas.Bool.{both_ways, not-true, ltb-false, leb-true, le-leb, cases_lt}
+use Rattle.std.proofs.lemmas.List.Elements.{All-contains, All-from_get_or, All-head, All-tail, All-weaker, Contains-append_cases, Contains-get_or, filter_passes}
+use Rattle.std.proofs.lemmas.List.MinMax.{IsStrictWeakOrder-by_number, IsStrictWeakOrder-flip, IsFirstBest-from_best_of}
+use Rattle.std.proofs.lemmas.List.Sorted.{Contains-permutation, IsPermutation-filter_both}
+use Rattle.std.proofs.lemmas.List.Sums.{AllPass-from_list_all, list_all-from_AllPass}
 use Rattle.market.specs.CutOff.{with_most, with_least, lowest, highest}
-use Rattle.market.proofs.PeakMembers.{Among, each_every, every_each, among_kept, kept_among}
 
--- those that are as good as every one
-abbrev best_by : {X : Type 0} → (X → X → Bool) → List X → List X
-best_by good xs = filter (λ x. every (λ y. good x y) xs) xs
-
--- as good as: of two one is, and what is as good as another is as good as all that the other is as good as
-record Ranks {X : Type 0} (good : X → X → Bool) : Type 0 where
-  either : (x y : X) → (good x y ≡ true) ⊎ (good y x ≡ true)
-  along : (x y z : X) → good x y ≡ true → good y z ≡ true → good x z ≡ true
-
-itself : {X : Type 0} (good : X → X → Bool) → Ranks good → (x : X) → good x x ≡ true
-itself good r x = elim (r.either x x) [ inl e ↦ e | inr e ↦ e ]
-
--- one of a list that has a first is as good as each
-best_of : {X : Type 0} (good : X → X → Bool) → Ranks good → (x : X) (xs : List X) →
-    (b : X) × (Among b (x ∷ xs) × ((y : X) → Among y (x ∷ xs) → good b y ≡ true))
-best_of good r x [] = (x, (inl refl, λ y m. elim m [ inl e ↦ subst (λ z. good x z ≡ true) e (itself good r x) | inr n ↦ absurd n ]))
-best_of good r x (z ∷ zs) =
-    let h = best_of good r z zs in
-    let b = h.0 in
-    elim (r.either x b) [
-      | inl e ↦ (x, (inl refl, λ y m. elim m [ inl i ↦ subst (λ v. good x v ≡ true) i (itself good r x) | inr n ↦ r.along x b y e (h.1.1 y n) ]))
-      | inr e ↦ (b, (inr h.1.0, λ y m. elim m [ inl i ↦ subst (λ v. good b v ≡ true) i e | inr n ↦ h.1.1 y n ]))
+-- a filter keeps the members that pass
+pub filter_keeps : {X : Type 0} (test : X → Bool) (xs : List X) (x : X) → Contains xs x → test x ≡ true → Contains (filter test xs) x
+filter_keeps {X} test xs x m t =
+    let fails : X → Bool = λ y. not (test y) in
+    let split = Contains-permutation xs _ x (IsPermutation-filter_both test fails (λ _. refl) xs) m in
+    elim (Contains-append_cases (filter test xs) (filter fails xs) x split) [
+      | inl k ↦ k
+      | inr k ↦ absurd (both_ways (test x) (not-true (test x) (All-contains (λ y. fails y ≡ true) (filter fails xs) x (filter_passes fails xs) k)) t)
     ]
 
--- so where a list has a member, its best have one
-best_some : {X : Type 0} (good : X → X → Bool) → Ranks good → (xs : List X) (x : X) → Among x xs → (b : X) × Among b (best_by good xs)
-best_some good r [] x m = absurd m
-best_some good r (y ∷ ys) x m =
-    let h = best_of good r y ys in
-    let b = h.0 in
-    (b, among_kept (λ v. every (λ w. good v w) (y ∷ ys)) (y ∷ ys) b h.1.0 (each_every (λ w. good b w) (y ∷ ys) h.1.1))
+-- those that are as good as every one: one at least, where what none beats is as good as each
+best_some : {beats : ℕ → ℕ → Bool} → IsStrictWeakOrder beats → (good : ℕ → ℕ → Bool) → ((p q : ℕ) → beats q p ≡ false → good p q ≡ true) →
+    (ps : List ℕ) → 0 < length ps → 0 < length (filter (λ p. list_all (good p) ps) ps)
+best_some o good as_good [] some = absurd (omega arith)
+best_some o good as_good (p ∷ ps) some =
+    let first = IsFirstBest-from_best_of o p ps in
+    let b = get_or (p ∷ ps) first.0 p in
+    let each = All-from_get_or (λ q. good b q ≡ true) (p ∷ ps) p (λ i low. as_good b (get_or (p ∷ ps) i p) (first.1.1 i p low)) in
+    let kept = filter_keeps (λ v. list_all (good v) (p ∷ ps)) (p ∷ ps) b (Contains-get_or (p ∷ ps) first.0 p first.1.0) (list_all-from_AllPass (good b) (p ∷ ps) each) in
+    omega (arith, kept.1)
 
-most_ranks : (figure : ℕ → ℕ) → Ranks (λ p q. leb (figure q) (figure p))
-most_ranks figure = record {
-  either = λ p q. elim (cases_lt (figure p) (figure q)) [ inl l ↦ inr (le-leb (figure p) (figure q) (omega arith)) | inr l ↦ inl (le-leb (figure q) (figure p) l) ];
-  along = λ p q s d e. le-leb (figure s) (figure p) (omega (arith, leb-true (figure q) (figure p) d, leb-true (figure s) (figure q) e));
-}
+pub most_some : (figure : ℕ → ℕ) (ps : List ℕ) → 0 < length ps → 0 < length (with_most figure ps)
+most_some figure =
+    best_some (IsStrictWeakOrder-flip _ (IsStrictWeakOrder-by_number figure)) (λ p q. leb (figure q) (figure p)) (λ p q e. le-leb _ _ (ltb-false (figure p) (figure q) e))
 
-least_ranks : (figure : ℕ → ℕ) → Ranks (λ p q. leb (figure p) (figure q))
-least_ranks figure = record {
-  either = λ p q. (most_ranks figure).either q p;
-  along = λ p q s d e. (most_ranks figure).along s q p e d;
-}
+pub least_some : (figure : ℕ → ℕ) (ps : List ℕ) → 0 < length ps → 0 < length (with_least figure ps)
+least_some figure = best_some (IsStrictWeakOrder-by_number figure) (λ p q. leb (figure p) (figure q)) (λ p q e. le-leb _ _ (ltb-false (figure q) (figure p) e))
 
-pub most_some : (figure : ℕ → ℕ) (ps : List ℕ) (p : ℕ) → Among p ps → (m : ℕ) × Among m (with_most figure ps)
-most_some figure = best_some (λ p q. leb (figure q) (figure p)) (most_ranks figure)
+-- no one has a greater figure than those with the most
+pub most_is_most : (figure : ℕ → ℕ) (ps : List ℕ) → All (λ p. All (λ q. figure q ≤ figure p) ps) (with_most figure ps)
+most_is_most figure ps = All-weaker _ _
+    (λ p e. All-weaker (λ q. leb (figure q) (figure p) ≡ true) _ (λ q l. leb-true (figure q) (figure p) l) ps (AllPass-from_list_all (λ q. leb (figure q) (figure p)) ps e))
+    (with_most figure ps) (filter_passes (λ p. list_all (λ q. leb (figure q) (figure p)) ps) ps)
 
-pub least_some : (figure : ℕ → ℕ) (ps : List ℕ) (p : ℕ) → Among p ps → (m : ℕ) × Among m (with_least figure ps)
-least_some figure = best_some (λ p q. leb (figure p) (figure q)) (least_ranks figure)
-
--- those with the most, and those with the least, are members
-pub most_among : (figure : ℕ → ℕ) (ps : List ℕ) (m : ℕ) → Among m (with_most figure ps) → Among m ps
-most_among figure ps m k = (kept_among (λ v. every (λ w. leb (figure w) (figure v)) ps) ps m k).0
-
-pub least_among : (figure : ℕ → ℕ) (ps : List ℕ) (m : ℕ) → Among m (with_least figure ps) → Among m ps
-least_among figure ps m k = (kept_among (λ v. every (λ w. leb (figure v) (figure w)) ps) ps m k).0
-
--- no member has a greater figure than those with the most
-pub most_is_most : (figure : ℕ → ℕ) (ps : List ℕ) (m p : ℕ) → Among m (with_most figure ps) → Among p ps → figure p ≤ figure m
-most_is_most figure ps m p k a =
-    let h = kept_among (λ v. every (λ w. leb (figure w) (figure v)) ps) ps m k in
-    leb-true (figure p) (figure m) (every_each (λ w. leb (figure w) (figure m)) ps p h.1 a)
-
--- the lowest is a member and at or below each; the highest is one too, and at or above each
-pub lowest_among : (ps : List ℕ) (p : ℕ) → Among p ps → Among (lowest ps) ps
-lowest_among [] p m = absurd m
-lowest_among (p ∷ []) _ m = inl refl
-lowest_among (p ∷ (q ∷ ps)) _ m =
-    let h = lowest_among (q ∷ ps) q (inl refl) in
+-- what holds of each holds of the lowest and of the highest
+pub lowest_has : (P : ℕ → Type 0) (ps : List ℕ) → 0 < length ps → All P ps → P (lowest ps)
+lowest_has P [] some a = absurd (omega arith)
+lowest_has P (p ∷ []) some a = All-head P p [] a
+lowest_has P (p ∷ (q ∷ ps)) some a =
+    let rest = lowest_has P (q ∷ ps) (omega arith) (All-tail P p (q ∷ ps) a) in
     elim (cases_lt p (lowest (q ∷ ps))) [
-      | inl l ↦ inl (omega arith)
-      | inr l ↦ (let e : lowest (q ∷ ps) ≡ min p (lowest (q ∷ ps)) = omega arith in inr (subst (λ v. Among v (q ∷ ps)) e h))
+      | inl l ↦ (let e : p ≡ min p (lowest (q ∷ ps)) = omega arith in subst P e (All-head P p (q ∷ ps) a))
+      | inr l ↦ (let e : lowest (q ∷ ps) ≡ min p (lowest (q ∷ ps)) = omega arith in subst P e rest)
     ]
 
-pub lowest_below : (ps : List ℕ) (p : ℕ) → Among p ps → lowest ps ≤ p
-lowest_below [] p m = absurd m
-lowest_below (q ∷ []) p m = elim m [ inl e ↦ omega arith | inr n ↦ absurd n ]
-lowest_below (q ∷ (s ∷ ps)) p m = elim m [ inl e ↦ omega arith | inr n ↦ omega (arith, lowest_below (s ∷ ps) p n) ]
-
-pub highest_above : (ps : List ℕ) (p : ℕ) → Among p ps → p ≤ highest ps
-highest_above [] p m = absurd m
-highest_above (q ∷ ps) p m = elim m [ inl e ↦ omega arith | inr n ↦ omega (arith, highest_above ps p n) ]
-
-pub highest_among : (ps : List ℕ) (p : ℕ) → Among p ps → Among (highest ps) ps
-highest_among [] p m = absurd m
-highest_among (q ∷ []) p m = inl (omega arith)
-highest_among (q ∷ (s ∷ ps)) p m =
-    let h = highest_among (s ∷ ps) s (inl refl) in
-    elim (cases_lt (highest (s ∷ ps)) q) [
-      | inl l ↦ inl (omega arith)
-      | inr l ↦ (let e : highest (s ∷ ps) ≡ max q (highest (s ∷ ps)) = omega arith in inr (subst (λ v. Among v (s ∷ ps)) e h))
+pub highest_has : (P : ℕ → Type 0) (ps : List ℕ) → 0 < length ps → All P ps → P (highest ps)
+highest_has P [] some a = absurd (omega arith)
+highest_has P (p ∷ []) some a = let e : p ≡ highest (p ∷ []) = omega arith in subst P e (All-head P p [] a)
+highest_has P (p ∷ (q ∷ ps)) some a =
+    let rest = highest_has P (q ∷ ps) (omega arith) (All-tail P p (q ∷ ps) a) in
+    elim (cases_lt p (highest (q ∷ ps))) [
+      | inl l ↦ (let e : highest (q ∷ ps) ≡ highest (p ∷ (q ∷ ps)) = omega arith in subst P e rest)
+      | inr l ↦ (let e : p ≡ highest (p ∷ (q ∷ ps)) = omega arith in subst P e (All-head P p (q ∷ ps) a))
     ]
+
+pub lowest-le-highest : (ps : List ℕ) → 0 < length ps → lowest ps ≤ highest ps
+lowest-le-highest [] some = absurd (omega arith)
+lowest-le-highest (p ∷ []) some = omega arith
+lowest-le-highest (p ∷ (q ∷ ps)) some = omega (arith, lowest-le-highest (q ∷ ps) (omega arith))

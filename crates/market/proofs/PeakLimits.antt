@@ -1,59 +1,59 @@
 -- The limits of waiting orders.
-use Rattle.std.proofs.Common.{◌≡◌, ℕ, eqb, ltb, ◌⊎◌, List, [], ◌∷◌, sym, refl, subst, inl, inr}
-use Rattle.std.proofs.lemmas.Bool.{cases_Bool, eqb-true}
+use Rattle.std.proofs.Common.{◌≡◌, ℕ, Bool, true, false, ◌||◌, eqb, ltb, List, [], ◌∷◌, get_or, All, sym, refl, ap, ◌∙◌, subst, inl, inr}
+use Rattle.std.specs.List.{list_any}
+use Rattle.std.proofs.lemmas.Bool.{cases_Bool, eqb-true, eq-eqb}
+use Rattle.std.proofs.lemmas.List.Elements.{All-contains}
+use Rattle.std.proofs.lemmas.List.Folds.{Any-from_list_any, list_any_at}
 use Rattle.market.specs.declared.order.Resting.{Resting}
 use Rattle.market.specs.Orders.{limit_of}
 use Rattle.market.specs.Prices.{into, limits_of}
-use Rattle.market.proofs.PeakMembers.{Among}
 
--- a price that goes into a list is a member of it then, and so are those that were
-into_has : (p : ℕ) (qs : List ℕ) → Among p (into p qs)
-into_has p [] = inl refl
-into_has p (q ∷ qs) =
-    elim (cases_Bool (eqb p q)) [
-      | inl e ↦ rw e (inl (sym (eqb-true p q e)))
-      | inr e ↦ elim (cases_Bool (ltb q p)) [ inl l ↦ rw (e, l) (inl refl) | inr l ↦ rw (e, l) (inr (into_has p qs)) ]
-    ]
+-- whether q is one of the prices, and whether it is the limit of one of the orders
+abbrev pub among : ℕ → List ℕ → Bool
+among q ps = list_any (λ p. eqb q p) ps
 
-into_keeps : (p s : ℕ) (qs : List ℕ) → Among s qs → Among s (into p qs)
-into_keeps p s [] m = absurd m
-into_keeps p s (q ∷ qs) m =
-    elim (cases_Bool (eqb p q)) [
-      | inl e ↦ rw e m
-      | inr e ↦ elim (cases_Bool (ltb q p)) [
-        | inl l ↦ rw (e, l) (inr m)
-        | inr l ↦ rw (e, l) (elim m [ inl i ↦ inl i | inr n ↦ inr (into_keeps p s qs n) ])
-      ]
-    ]
+abbrev pub has_limit : ℕ → List Resting → Bool
+has_limit q es = list_any (λ e. eqb q (limit_of e)) es
 
--- and there is no other
-into_only : (p s : ℕ) (qs : List ℕ) → Among s (into p qs) → (p ≡ s) ⊎ Among s qs
-into_only p s [] m = m
-into_only p s (q ∷ qs) m =
-    elim (cases_Bool (eqb p q)) [
-      | inl e ↦ inr (rw e at m)
-      | inr e ↦ elim (cases_Bool (ltb q p)) [
-        | inl l ↦ rw (e, l) at m
-        | inr l ↦
-            let k : (q ≡ s) ⊎ Among s (into p qs) = rw (e, l) at m in
-            elim k [ inl i ↦ inr (inl i) | inr n ↦ elim (into_only p s qs n) [ inl i ↦ inl i | inr o ↦ inr (inr o) ] ]
-      ]
-    ]
+or_swapped : (a b c : Bool) → (a || (b || c)) ≡ (b || (a || c))
+or_swapped true true c = refl
+or_swapped true false c = refl
+or_swapped false true c = refl
+or_swapped false false c = refl
 
--- the limit of a waiting order is one of the limits
-pub limit_among : (q : List Resting) (e : Resting) → Among e q → Among (limit_of e) (limits_of q)
-limit_among [] e m = absurd m
-limit_among (x ∷ xs) e m =
-    elim m [
-      | inl i ↦ subst (λ v. Among (limit_of v) (into (limit_of x) (limits_of xs))) i (into_has (limit_of x) (limits_of xs))
-      | inr n ↦ into_keeps (limit_of x) (limit_of e) (limits_of xs) (limit_among xs e n)
-    ]
+or_twice : (a b : Bool) → (a || b) ≡ (a || (a || b))
+or_twice true b = refl
+or_twice false b = refl
 
--- and each of the limits is that of a waiting order
-pub limit_of_one : (q : List Resting) (p : ℕ) → Among p (limits_of q) → (e : Resting) × (Among e q × (limit_of e ≡ p))
-limit_of_one [] p m = absurd m
-limit_of_one (x ∷ xs) p m =
-    elim (into_only (limit_of x) p (limits_of xs) m) [
-      | inl i ↦ (x, (inl refl, i))
-      | inr n ↦ (let h = limit_of_one xs p n in (h.0, (inr h.1.0, h.1.1)))
-    ]
+-- a price that goes in is there, and what was there stays
+among_into : (q p : ℕ) (ps : List ℕ) → among q (into p ps) ≡ (eqb q p || among q ps)
+among_into q p [] = refl
+among_into q p (r ∷ rs) = elim (cases_Bool (eqb p r)) [
+  | inl t ↦ rw (t, eqb-true p r t) (or_twice (eqb q r) (among q rs))
+  | inr t ↦ elim (cases_Bool (ltb r p)) [
+    | inl u ↦ rw (t, u) refl
+    | inr u ↦ rw (t, u) (ap (λ b. eqb q r || b) (among_into q p rs) ∙ or_swapped (eqb q r) (eqb q p) (among q rs))
+  ]
+]
+
+-- the limits are those of the orders
+pub limits_among : (q : ℕ) (es : List Resting) → among q (limits_of es) ≡ has_limit q es
+limits_among q [] = refl
+limits_among q (e ∷ es) = among_into q (limit_of e) (limits_of es) ∙ ap (λ b. eqb q (limit_of e) || b) (limits_among q es)
+
+pub limits_wait : (es : List Resting) → All (λ p. has_limit p es ≡ true) (limits_of es)
+limits_wait es k d low =
+    let p = get_or (limits_of es) k d in
+    sym (limits_among p es) ∙ list_any_at (λ q. eqb p q) (limits_of es) k d low (eq-eqb p p refl)
+
+-- so that what holds of each of the limits holds of each order's
+pub limit_has : (P : ℕ → Type 0) (es : List Resting) → All P (limits_of es) → (p : ℕ) → has_limit p es ≡ true → P p
+limit_has P es a p t =
+    let one = Any-from_list_any (λ q. eqb p q) (limits_of es) (limits_among p es ∙ t) in
+    subst P (sym (eqb-true p one.1 one.4)) (All-contains P (limits_of es) one.1 a (one.0, one.2, one.3))
+
+-- and what holds of each order's limit, of each of the limits
+pub has_limit_gives : (P : ℕ → Type 0) (es : List Resting) → All (λ e. P (limit_of e)) es → (p : ℕ) → has_limit p es ≡ true → P p
+has_limit_gives P es a p t =
+    let one = Any-from_list_any (λ e. eqb p (limit_of e)) es t in
+    subst P (sym (eqb-true p (limit_of one.1) one.4)) (All-contains (λ e. P (limit_of e)) es one.1 a (one.0, one.2, one.3))

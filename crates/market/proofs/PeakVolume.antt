@@ -1,73 +1,44 @@
 -- What can deal, price by price: supply grows with the price, demand falls, and the greatest volume is found at a waiting limit.
-use Rattle.std.proofs.Common.{◌≡◌, ℕ, ◌+◌, ◌<◌, ◌≤◌, Bool, true, leb, ◌⊎◌, List, [], ◌∷◌, ◌++◌, refl, ◌∙◌, inl, inr, arith}
-use Rattle.std.proofs.lemmas.Bool.{cases_Bool, leb-true, le-leb, lt-leb, cases_lt}
+use Rattle.std.proofs.Common.{◌≡◌, ℕ, zero, suc, ◌≤◌, true, false, cond, eqb, ltb, leb, List, [], ◌∷◌, ◌++◌, refl, ◌∙◌, inl, inr, arith}
+use Rattle.std.proofs.lemmas.Bool.{cases_Bool, or_parts, or_left}
+use Rattle.std.proofs.lemmas.Bool.Decides.{nat_tests}
+use Rattle.std.proofs.lemmas.List.Folds.{list_any-append}
 use Rattle.market.specs.declared.order.Resting.{Resting}
 use Rattle.market.specs.Orders.{total_if, limit_of, lots_of}
-use Rattle.market.specs.Prices.{supply, demand, volume, waiting_limits}
-use Rattle.market.proofs.PeakMembers.{Among, among_left}
-use Rattle.market.proofs.PeakLimits.{limit_among}
-
--- more pass, more is added up
-total_if_le : {X : Type 0} (narrow wide : X → Bool) (figure : X → ℕ) (xs : List X) →
-    ((x : X) → narrow x ≡ true → wide x ≡ true) → total_if narrow figure xs ≤ total_if wide figure xs
-total_if_le narrow wide figure [] f = omega arith
-total_if_le narrow wide figure (x ∷ xs) f =
-    let h = total_if_le narrow wide figure xs f in
-    elim (cases_Bool (narrow x)) [ inl e ↦ rw (e, f x e) (omega arith) | inr e ↦ rw e (omega arith) ]
+use Rattle.market.specs.Prices.{supply, demand, volume}
+use Rattle.market.proofs.Totals.{total_none, total_le}
+use Rattle.market.proofs.PeakLimits.{has_limit}
 
 pub supply_grows : (sells : List Resting) (p q : ℕ) → p ≤ q → supply sells p ≤ supply sells q
-supply_grows sells p q l =
-    total_if_le (λ e. leb (limit_of e) p) (λ e. leb (limit_of e) q) lots_of sells (λ e t. le-leb (limit_of e) q (omega (arith, leb-true (limit_of e) p t)))
+supply_grows sells p q l = total_le _ _ (λ e. grind (arith, nat_tests)) sells
 
 pub demand_falls : (buys : List Resting) (p q : ℕ) → p ≤ q → demand buys q ≤ demand buys p
-demand_falls buys p q l =
-    total_if_le (λ e. leb q (limit_of e)) (λ e. leb p (limit_of e)) lots_of buys (λ e t. le-leb p (limit_of e) (omega (arith, leb-true q (limit_of e) t)))
+demand_falls buys p q l = total_le _ _ (λ e. grind (arith, nat_tests)) buys
 
--- supply of one sell more, at or above its limit and below it
-supply_with : (x : Resting) (sells : List Resting) (p : ℕ) → limit_of x ≤ p → supply (x ∷ sells) p ≡ lots_of x + supply sells p
-supply_with x sells p l = let e = le-leb (limit_of x) p l in rw e refl
-
-supply-without : (x : Resting) (sells : List Resting) (p : ℕ) → p < limit_of x → supply (x ∷ sells) p ≡ supply sells p
-supply-without x sells p l = let e = lt-leb (limit_of x) p l in rw e (omega arith)
-
--- nothing is offered at a price, or as much is offered at the limit of a sell that is at or below it
-abbrev AsMuchBelow : List Resting → ℕ → Type 0
-AsMuchBelow sells p = (supply sells p ≡ 0) ⊎ ((e : Resting) × (Among e sells × ((limit_of e ≤ p) × (supply sells p ≤ supply sells (limit_of e)))))
-
-as_much_below : (sells : List Resting) (p : ℕ) → AsMuchBelow sells p
-as_much_below [] p = inl refl
-as_much_below (x ∷ xs) p =
-    elim (cases_lt p (limit_of x)) [
-      | inl above ↦
-          let same = supply-without x xs p above in
-          elim (as_much_below xs p) [
-            | inl z ↦ inl (same ∙ z)
-            | inr h ↦ (let f = supply-without x xs (limit_of h.0) (omega arith) in inr (h.0, (inr h.1.0, (h.1.1.0, omega arith))))
-          ]
-      | inr below ↦
-          let here = supply_with x xs p below in
-          let own = supply_with x xs (limit_of x) (omega arith) in
-          elim (as_much_below xs p) [
-            | inl z ↦ inr (x, (inl refl, (below, omega arith)))
-            | inr h ↦ elim (cases_lt (limit_of h.0) (limit_of x)) [
-              | inl l ↦ (let g = supply_grows xs (limit_of h.0) (limit_of x) (omega arith) in inr (x, (inl refl, (below, omega arith))))
-              | inr l ↦ (let f = supply_with x xs (limit_of h.0) l in inr (h.0, (inr h.1.0, (h.1.1.0, omega arith))))
-            ]
-          ]
-    ]
+-- at a price that is no sell's limit no more is offered than by the sells below it
+supply_between : (sells : List Resting) (p : ℕ) → has_limit p sells ≡ false → supply sells p ≡ total_if (λ e. ltb (limit_of e) p) lots_of sells
+supply_between [] p none = refl
+supply_between (e ∷ sells) p none =
+    let parts = or_parts (eqb p (limit_of e)) (has_limit p sells) none in
+    let here = parts.0 in
+    let rest = supply_between sells p parts.1 in
+    grind (arith, nat_tests)
 
 -- so where no waiting limit has a greater volume than v, no price has
-pub most_at_limit : (sells buys : List Resting) (v : ℕ) → ((p : ℕ) → Among p (waiting_limits sells buys) → volume sells buys p ≤ v) →
-    (q : ℕ) → volume sells buys q ≤ v
-most_at_limit sells buys v most q =
-    elim (as_much_below sells q) [
-      | inl z ↦ omega arith
-      | inr h ↦
-          let e = h.0 in
-          let at = most (limit_of e) (limit_among (sells ++ buys) e (among_left sells buys e h.1.0)) in
-          let d = demand_falls buys (limit_of e) q h.1.1.0 in
-          omega arith
-    ]
+module _ (sells buys : List Resting) (v : ℕ) (most : (p : ℕ) → has_limit p (sells ++ buys) ≡ true → volume sells buys p ≤ v) where
+  at_limit : (p : ℕ) → (has_limit p sells ≡ false → volume sells buys p ≤ v) → volume sells buys p ≤ v
+  at_limit p otherwise = elim (cases_Bool (has_limit p sells)) [
+    | inl t ↦ most p (list_any-append (λ e. eqb p (limit_of e)) sells buys ∙ or_left (has_limit p sells) (has_limit p buys) t)
+    | inr none ↦ otherwise none
+  ]
+
+  pub most_at_limit : (q : ℕ) → volume sells buys q ≤ v
+  most_at_limit zero = at_limit zero (λ none.
+      let nothing = total_none (λ e. cond (ltb (limit_of e) 0) (lots_of e) 0) sells (λ k d low. grind (arith, nat_tests)) in
+      omega (arith, supply_between sells zero none))
+  most_at_limit (suc q) = at_limit (suc q) (λ none.
+      let under = total_le (λ e. cond (ltb (limit_of e) (suc q)) (lots_of e) 0) (λ e. cond (leb (limit_of e) q) (lots_of e) 0) (λ e. grind (arith, nat_tests)) sells in
+      omega (arith, supply_between sells (suc q) none, demand_falls buys q (suc q) (omega arith), most_at_limit q))
 
 -- and between two prices with volumes of at least v, every price has one
 pub least_between : (sells buys : List Resting) (v low high p : ℕ) → v ≤ volume sells buys low → v ≤ volume sells buys high →

@@ -1,5 +1,6 @@
 -- What each call of a session answers, and what it makes of the session. A refused call leaves the session as it was.
 use Rattle.std.specs.Prelude.{ℕ, ◌+◌, Bool, cond, not, ◌&&◌, List, [], ◌∷◌, ◌++◌, map, length, Some, None, Ok, filter, Option, Result, ◌==◌, nat_eq, nat_lt}
+use Rattle.std.specs.List.{list_any, fold}
 use Rattle.ordered_list.specs.Order.{placed}
 use Rattle.units.specs.Answers.{check, if_ok, given, raised}
 use Rattle.units.specs.Ranges.{is_participant, is_price, is_order_size}
@@ -19,7 +20,7 @@ use Rattle.market.specs.declared.deal.Cancellation.{Cancellation}
 use Rattle.market.specs.declared.phase.Phase.TheVariants.{Gathering, Struck, Closed}
 use Rattle.market.specs.declared.fault.SessionFault.{SessionFault}
 use Rattle.market.specs.declared.fault.SessionFault.TheVariants.{NoParticipant, PriceOutOfRange, LotsOutOfRange, SessionFull, OwnOrderInTheWay, NotOwnOrder, NothingWaits, WrongPhase, SomethingBlocked, Depository}
-use Rattle.market.specs.Orders.{some, number_of, owner_of, limit_of, lots_in, waiting_lots, queue_after, meets, cover_for, cover_of}
+use Rattle.market.specs.Orders.{number_of, owner_of, limit_of, lots_in, waiting_lots, queue_after, meets, cover_for, cover_of}
 use Rattle.market.specs.CutOff.{cut_off_found}
 use Rattle.market.specs.State.{State, empty_in, in_phase, queue_of, waiting, is_gathering, is_struck, is_trading}
 
@@ -47,7 +48,7 @@ next_order s who side limit lots = record { number = record { 0 = length s.order
 
 -- whether an own waiting order on the other side meets the limit
 abbrev pub own_in_the_way : State → Participant → Side → Price → Bool
-own_in_the_way s who side limit = some (λ e. (owner_of e == who.0) && meets side limit.0 (limit_of e)) (queue_of (counter side) s)
+own_in_the_way s who side limit = list_any (λ e. (owner_of e == who.0) && meets side limit.0 (limit_of e)) (queue_of (counter side) s)
 
 abbrev pub submit_answer : State → Participant → Side → Price → Lots → Result OrderNumber SessionFault
 submit_answer s who side limit lots =
@@ -96,8 +97,7 @@ cancellation_of e = record { order = e.order.number; lots = e.lots }
 
 -- the cover of these is released
 abbrev pub released : List Account → List Resting → List Account
-released accounts [] = accounts
-released accounts (e ∷ es) = released (release_after accounts e.order.participant (cover_of e)) es
+released = fold (λ accounts e. release_after accounts e.order.participant (cover_of e))
 
 -- what waits of order n is annulled
 abbrev pub annulled : ℕ → State → State
@@ -113,8 +113,7 @@ annulled n s = record {
 
 -- what waits of these orders is annulled, one after the other
 abbrev pub annulled_each : List Order → State → State
-annulled_each [] s = s
-annulled_each (o ∷ os) s = annulled_each os (annulled o.number.0 s)
+annulled_each os s = fold (λ t o. annulled o.number.0 t) s os
 
 -- all that waits is annulled, by rising number
 abbrev pub all_annulled : State → State
@@ -124,7 +123,7 @@ all_annulled s = annulled_each s.orders s
 
 -- whether an order of this participant has the number
 abbrev pub is_own : State → Participant → OrderNumber → Bool
-is_own s who n = some (λ o. (o.number.0 == n.0) && o.participant.0 == who.0) s.orders
+is_own s who n = list_any (λ o. (o.number.0 == n.0) && o.participant.0 == who.0) s.orders
 
 abbrev pub withdraw_answer : State → Participant → OrderNumber → Result Lots SessionFault
 withdraw_answer s who n =

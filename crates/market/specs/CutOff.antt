@@ -1,20 +1,21 @@
 -- The cut-off: the one price of an iteration.
 use Rattle.std.specs.Prelude.{ℕ, ◌+◌, ◌/◌, ◌%◌, ◌≤◌, min, max, Bool, cond, ◌||◌, leb, List, [], ◌∷◌, ◌++◌, Some, None, filter, Option, ◌==◌, nat_le, nat_lt}
+use Rattle.std.specs.List.{list_any, list_all, fold}
 use Rattle.units.specs.declared.quantity.Price.{Price}
 use Rattle.market.specs.declared.order.Resting.{Resting}
-use Rattle.market.specs.Orders.{some, every, number_of, limit_of, lots_in}
+use Rattle.market.specs.Orders.{number_of, limit_of, lots_in}
 use Rattle.market.specs.Prices.{volume, imbalance, waiting_limits}
 
 -- whether some waiting sell limit is at or below some waiting buy limit
 abbrev pub crosses : List Resting → List Resting → Bool
-crosses sells buys = some (λ x. some (λ y. leb (limit_of x) (limit_of y)) buys) sells
+crosses sells buys = list_any (λ x. list_any (λ y. leb (limit_of x) (limit_of y)) buys) sells
 
 -- those prices whose figure no other's exceeds, and those whose figure exceeds no other's
 abbrev pub with_most : (ℕ → ℕ) → List ℕ → List ℕ
-with_most figure ps = filter (λ p. every (λ q. leb (figure q) (figure p)) ps) ps
+with_most figure ps = filter (λ p. list_all (λ q. leb (figure q) (figure p)) ps) ps
 
 abbrev pub with_least : (ℕ → ℕ) → List ℕ → List ℕ
-with_least figure ps = filter (λ p. every (λ q. leb (figure p) (figure q)) ps) ps
+with_least figure ps = filter (λ p. list_all (λ q. leb (figure p) (figure q)) ps) ps
 
 -- the waiting limits with the greatest V, and of these those with the least size of D
 abbrev pub candidates : List Resting → List Resting → List ℕ
@@ -35,8 +36,7 @@ abbrev pub earlier : Resting → Resting → Resting
 earlier x y = cond (nat_le (number_of x) (number_of y)) x y
 
 abbrev pub earliest : Resting → List Resting → Resting
-earliest e [] = e
-earliest e (x ∷ xs) = earliest (earlier e x) xs
+earliest = fold earlier
 
 abbrev pub limit_of_earliest : List Resting → ℕ
 limit_of_earliest [] = 0

@@ -1,6 +1,7 @@
 -- What holds after every call of every run.
-use Rattle.std.specs.Prelude.{◌≡◌, ℕ, suc, ◌+◌, ◌*◌, ◌<◌, ◌≤◌, true, false, cond, ◌≢◌, List, [], ◌∷◌, length, ◌==◌, nat_eq}
-use Rattle.std.specs.List.{ContainsAt as Has, AllByRecursion}
+use Rattle.std.specs.Prelude.{◌≡◌, ℕ, suc, ◌+◌, ◌*◌, ◌<◌, ◌≤◌, true, false, ◌≢◌, List, [], ◌∷◌, length, ◌==◌, nat_eq}
+use Rattle.std.specs.List.{Contains, AllByRecursion, find}
+use Rattle.std.specs.Option.{option_map, unwrap_or}
 use Rattle.ordered_list.specs.Order.{in_order}
 use Rattle.units.specs.Ranges.{is_participant, is_price, is_order_size}
 use Rattle.units.specs.declared.participant.Participant.{Participant}
@@ -58,8 +59,7 @@ Covered s = (p : Participant) → is_participant p ≡ true → CoveredFor s p
 
 -- whose order n is: 0, which is nobody's number, where there is no such order
 abbrev pub owner_in : List Order → ℕ → ℕ
-owner_in [] n = 0
-owner_in (o ∷ os) n = cond (o.number.0 == n) o.participant.0 (owner_in os n)
+owner_in os n = unwrap_or (option_map (λ o. o.participant.0) (find (λ o. o.number.0 == n) os)) 0
 
 -- by its deals, what participant p sold and bought, and what it took in and paid for that
 abbrev pub sold_by : ℕ → State → ℕ
@@ -109,7 +109,7 @@ NumberedFrom n (o ∷ os) = (o.number.0 ≡ n) × NumberedFrom (suc n) os
 abbrev pub InRange : Order → Type 0
 InRange o = (is_participant o.participant ≡ true) × ((is_price o.limit ≡ true) × (is_order_size o.accepted ≡ true))
 
--- no two entries are of one order
+-- No two entries are of one order. Not the library's IsDistinct of a test on them: that the numbers differ is what follows of each
 abbrev pub Distinct : List Resting → Type 0
 Distinct [] = Unit {0}
 Distinct (e ∷ es) = AllByRecursion (λ x. number_of x ≢ number_of e) es × Distinct es
@@ -120,7 +120,7 @@ pub record Books (s : State) : Type 0 where
   pub few : length s.orders ≤ most_orders
   pub numbered : NumberedFrom 1 s.orders
   pub in_range : AllByRecursion InRange s.orders
-  pub recorded : AllByRecursion (λ e. Has s.orders e.order) (waiting s)
+  pub recorded : AllByRecursion (λ e. Contains s.orders e.order) (waiting s)
   pub lots_wait : AllByRecursion (λ e. (0 < lots_of e) × (lots_of e ≤ e.order.accepted.0)) (waiting s)
   pub distinct : Distinct (waiting s)
   pub selling : AllByRecursion (λ e. e.order.side ≡ Sell) s.sells

@@ -1,6 +1,6 @@
 -- Orders that wait, and what can be said of them.
 use Rattle.std.specs.Prelude.{ℕ, ◌+◌, ◌-◌, Bool, cond, List, [], ◌∷◌, nat_eq, nat_le}
-use Rattle.std.specs.List.{list_any, list_all}
+use Rattle.std.specs.List.{list_any}
 use Rattle.ordered_list.specs.Keys.{upward, then_by}
 use Rattle.units.specs.Worth.{worth}
 use Rattle.units.specs.declared.quantity.Price.{Price}
@@ -11,7 +11,8 @@ use Rattle.depository.specs.declared.amount.Amount.{Amount}
 use Rattle.depository.specs.declared.amount.Amount.TheVariants.{Lots, Money}
 use Rattle.market.specs.declared.order.Resting.{Resting}
 
--- a figure of each, added up over a list
+-- A figure of each, added up over a list. Not the library's sum_by, which adds up from the first on: here the sum of e ∷ q
+-- computes to the figure of e and the rest, which the proofs on queues go by.
 abbrev pub total : {X : Type 0} → (X → ℕ) → List X → ℕ
 total figure [] = 0
 total figure (x ∷ xs) = figure x + total figure xs
@@ -20,12 +21,9 @@ total figure (x ∷ xs) = figure x + total figure xs
 abbrev pub total_if : {X : Type 0} → (X → Bool) → (X → ℕ) → List X → ℕ
 total_if test figure xs = total (λ x. cond (test x) (figure x) 0) xs
 
--- whether some, whether every one passes a test
+-- whether some of them passes a test
 abbrev pub some : {X : Type 0} → (X → Bool) → List X → Bool
 some = list_any
-
-abbrev pub every : {X : Type 0} → (X → Bool) → List X → Bool
-every = list_all
 
 -- of a waiting order: its number, the participant it is of, its limit, the lots that wait
 abbrev pub number_of : Resting → ℕ

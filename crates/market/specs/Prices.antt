@@ -24,7 +24,8 @@ difference sells buys p = pos (supply sells p) -ℤ pos (demand buys p)
 abbrev pub imbalance : List Resting → List Resting → ℕ → ℕ
 imbalance sells buys p = (supply sells p - demand buys p) + (demand buys p - supply sells p)
 
--- a price into a list of prices that goes downward, unless it is there
+-- A price into a list of prices that goes downward, unless it is there. The library's insert_key says it of any ordering, and has
+-- no lemma on which keys there are then
 abbrev pub into : ℕ → List ℕ → List ℕ
 into p [] = p ∷ []
 into p (q ∷ qs) = cond (p == q) (q ∷ qs) (cond (nat_lt q p) (p ∷ (q ∷ qs)) (q ∷ into p qs))

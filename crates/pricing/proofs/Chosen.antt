@@ -1,18 +1,20 @@
 -- The candidates among the walked lines are the candidates among the waiting limits.
-use Rattle.std.proofs.Common.{◌≡◌, ℕ, ◌+◌, ◌-◌, ◌^◌, ◌<◌, ◌≤◌, Bool, true, ◌&&◌, eqb, leb, List, [], ◌∷◌, ◌++◌, map, filter, sym, refl, ap, ◌∙◌, arith}
-use Rattle.std.specs.List.{AllByRecursion}
+use Rattle.std.proofs.Common.{◌≡◌, ℕ, ◌+◌, ◌-◌, ◌^◌, ◌<◌, ◌≤◌, Bool, true, ◌&&◌, eqb, leb, List, [], ◌∷◌, ◌++◌, map, filter, None, sym, refl, ap, ◌∙◌, arith}
+use Rattle.std.specs.List.{AllByRecursion, last_or, list_all}
+use Rattle.std.specs.Option.{unwrap_or}
 use Rattle.std.proofs.ByRecursion.{All-weaker, all_kept_by}
+use Rattle.std.proofs.lemmas.Simd.{map-map}
 use Rattle.std.proofs.lemmas.Bool.{leb-true, le-leb, cond_both}
 use Rattle.market.specs.declared.order.Resting.{Resting}
-use Rattle.market.specs.Orders.{every, total_if, limit_of, lots_of, lots_in}
+use Rattle.market.specs.Orders.{total_if, limit_of, lots_of, lots_in}
 use Rattle.market.specs.Prices.{volume, imbalance, waiting_limits}
 use Rattle.market.specs.CutOff.{highest, lowest, with_most, with_least, candidates}
 use Rattle.market.specs.Queues.{Queues}
 use Rattle.pricing.specs.declared.line.Line.{Line}
-use Rattle.pricing.specs.Candidates.{volume_of, imbalance_of, least_of, last_or, least_imbalance, has_figures, candidate_lines}
+use Rattle.pricing.specs.Candidates.{volume_of, imbalance_of, least_of, least_imbalance, has_figures, candidate_lines}
 use Rattle.pricing.specs.Lines.{price_of, line_at, lines_at}
 use Rattle.pricing.proofs.Figures.{highest_above, highest_le, least_below, least_ge, lowest-last}
-use Rattle.pricing.proofs.Keeping.{kept_both, kept_map, map-map, kept_best, all-every}
+use Rattle.pricing.proofs.Keeping.{kept_both, kept_map, kept_best, all-every}
 use Rattle.pricing.proofs.Limits.{Downward, limits_downward}
 use Rattle.pricing.proofs.Each.{all_any}
 use Rattle.pricing.proofs.Placing.{prices_lines}
@@ -26,7 +28,7 @@ most_kept : (f : ℕ → ℕ) (ps : List ℕ) → with_most f ps ≡ filter (λ 
 most_kept f ps =
     kept_best leb f (highest (map f ps)) ps (λ m n a b. let u = leb-true m n a in let v = leb-true n m b in omega arith)
     (All-weaker (λ p. f p ≤ highest (map f ps)) (λ p. leb (f p) (highest (map f ps)) ≡ true) (λ p h. le-leb (f p) (highest (map f ps)) h) ps (highest_above f ps))
-    (all_any (λ p. every (λ q. leb (f q) (f p)) ps ≡ true → leb (highest (map f ps)) (f p) ≡ true)
+    (all_any (λ p. list_all (λ q. leb (f q) (f p)) ps ≡ true → leb (highest (map f ps)) (f p) ≡ true)
     (λ p e. le-leb (highest (map f ps)) (f p) (highest_le f (f p) ps (All-weaker (λ q. leb (f q) (f p) ≡ true) (λ q. f q ≤ f p) (λ q h. leb-true (f q) (f p) h) ps (all-every (λ q. leb (f q) (f p)) ps e)))) ps)
 
 -- those with the least are those with the least figure
@@ -34,7 +36,7 @@ least_kept : (top : ℕ) (f : ℕ → ℕ) (ps : List ℕ) → AllByRecursion (�
 least_kept top f ps t =
     kept_best (λ m n. leb n m) f (least_of top (map f ps)) ps (λ m n a b. let u = leb-true n m a in let v = leb-true m n b in omega arith)
     (All-weaker (λ p. least_of top (map f ps) ≤ f p) (λ p. leb (least_of top (map f ps)) (f p) ≡ true) (λ p h. le-leb (least_of top (map f ps)) (f p) h) ps (least_below top f ps))
-    (All-weaker (λ p. f p ≤ top) (λ p. every (λ q. leb (f p) (f q)) ps ≡ true → leb (f p) (least_of top (map f ps)) ≡ true)
+    (All-weaker (λ p. f p ≤ top) (λ p. list_all (λ q. leb (f p) (f q)) ps ≡ true → leb (f p) (least_of top (map f ps)) ≡ true)
     (λ p l e. le-leb (f p) (least_of top (map f ps)) (least_ge top f (f p) ps l (All-weaker (λ q. leb (f p) (f q) ≡ true) (λ q. f p ≤ f q) (λ q h. leb-true (f p) (f q) h) ps (all-every (λ q. leb (f p) (f q)) ps e)))) ps t)
 
 -- the candidates in one pass over the prices
@@ -83,10 +85,10 @@ downward_kept test (p ∷ ps) d =
 
 -- what the code finds of the walked lines are the ends of the candidates
 pub candidate_ends : (sells buys : List Resting) (lines : List Line) → Queues sells buys → lines ≡ lines_at sells buys →
-    (last_or 0 (map price_of (candidate_lines lines)) ≡ lowest (candidates sells buys)) × (highest (map price_of (candidate_lines lines)) ≡ highest (candidates sells buys))
+    (unwrap_or (last_or None (map price_of (candidate_lines lines))) 0 ≡ lowest (candidates sells buys)) × (highest (map price_of (candidate_lines lines)) ≡ highest (candidates sells buys))
 candidate_ends sells buys lines q e =
     let ps = waiting_limits sells buys in
     let c = ap (λ ls. map price_of (candidate_lines ls)) e ∙ candidate_prices sells buys ps (all_any (λ p. imbalance sells buys p ≤ 2 ^ 64 - 1) (imbalance-fits sells buys q) ps) in
-    let d = downward_kept (λ p. every (λ r. leb (imbalance sells buys p) (imbalance sells buys r)) (with_most (volume sells buys) ps)) (with_most (volume sells buys) ps)
-    (downward_kept (λ p. every (λ r. leb (volume sells buys r) (volume sells buys p)) ps) ps (limits_downward (sells ++ buys))) in
-    (ap (last_or 0) c ∙ sym (lowest-last (candidates sells buys) d), ap highest c)
+    let d = downward_kept (λ p. list_all (λ r. leb (imbalance sells buys p) (imbalance sells buys r)) (with_most (volume sells buys) ps)) (with_most (volume sells buys) ps)
+    (downward_kept (λ p. list_all (λ r. leb (volume sells buys r) (volume sells buys p)) ps) ps (limits_downward (sells ++ buys))) in
+    (ap (λ ns. unwrap_or (last_or None ns) 0) c ∙ sym (lowest-last (candidates sells buys) d), ap highest c)

@@ -1,6 +1,15 @@
 -- The level at the front of a sorted list of orders: none behind it has its limit.
-use Rattle.std.proofs.Common.{◌≡◌, ℕ, ◌≤◌, false, eqb, List, [], ◌∷◌, take, drop, refl, inl, inr, one-add, arith}
-use Rattle.std.specs.List.{AllByRecursion}
+use Rattle.std.proofs.Common.{◌≡◌, ℕ, ◌≤◌, Bool, false, eqb, Bor, List, [], ◌∷◌, length, take, drop, Option, refl, ◌∙◌, inl, inr, one-add, arith}
+use Rattle.std.specs.Fn.{CalledAt}
+use Rattle.std.specs.Iterator.{Drains}
+use Rattle.std.specs.Iterator.Adapters.{take_while_source, take_while_callee, take_while_done, take_while_steps}
+use Rattle.std.specs.List.{AllByRecursion, prefix_len}
+use Rattle.std.proofs.lemmas.Iterator.{YieldsList}
+use Rattle.std.proofs.lemmas.Iterator.Consumers.{count_from_yields_List}
+use Rattle.std.proofs.lemmas.Iterator.Search.{YieldsList-from_take_while}
+use Rattle.std.proofs.lemmas.List.Folds.{length-prefix_len}
+use denote.Param.Members.{Mut}
+use Rattle.std.specs.declared.iter.TakeWhile.{TakeWhile}
 use Rattle.std.proofs.ByRecursion.{All-weaker}
 use Rattle.std.proofs.lemmas.Bool.{cases_Bool, eqb-true, eqb-false, ne_eqb}
 use Rattle.units.specs.declared.side.Side.{Side}
@@ -74,3 +83,9 @@ front_le p (e ∷ es) = elim (cases_Bool (eqb (limit_of e) p)) [
   | inl t ↦ rw t (omega (arith, front_le p es))
   | inr t ↦ rw t (omega arith)
 ]
+
+-- how many items `take_while` counts
+pub count_leading : {S A B F : Type 0} {steps : S → Option A → S → Type 0} {v : A → B} {all : List B} {s : TakeWhile S F} {f : F} (g : Mut F (Bor A × Unit {0}) Bool) (test : B → Bool) (r : ℕ) →
+    ((xs : List A) × Drains (take_while_steps steps g) s xs × (r ≡ length xs)) → YieldsList steps v (take_while_source s) all → take_while_callee s ≡ f → take_while_done s ≡ false →
+    ((x : A) (b : Bool) (q : F) → CalledAt g f x b q → (q ≡ f) × (b ≡ test (v x))) → r ≡ prefix_len test all
+count_leading {all = all} g test r ran y c d call = count_from_yields_List _ r ran (YieldsList-from_take_while g test y c d call) ∙ length-prefix_len test all

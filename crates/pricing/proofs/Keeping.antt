@@ -1,21 +1,9 @@
--- What passes a test, of a list and of what is left of it.
-use Rattle.std.proofs.Common.{◌≡◌, ℕ, ◌+◌, ◌<◌, ◌≤◌, Bool, true, false, cond, ◌&&◌, eqb, List, [], ◌∷◌, map, length, get_or, drop, filter, sym, refl, ap, ◌∙◌, inl, inr}
-use Rattle.std.specs.List.{AllByRecursion}
-use Rattle.std.proofs.lemmas.List.{at_drop_more, at_drop_all}
-use Rattle.std.proofs.lemmas.Bool.{cases_Bool, eqb-true, eqb-false, and_from, and_parts}
-use Rattle.market.specs.Orders.{every}
-
--- the next element passes, it does not, and there is none
-pub kept_more_yes : {X : Type 0} (test : X → Bool) (xs : List X) (i : ℕ) (d : X) → i < length xs → test (get_or xs i d) ≡ true →
-    filter test (drop i xs) ≡ get_or xs i d ∷ filter test (drop (i + 1) xs)
-kept_more_yes test xs i d l t = at_drop_more (filter test) xs i d l ∙ rw t refl
-
-pub kept_more_no : {X : Type 0} (test : X → Bool) (xs : List X) (i : ℕ) (d : X) → i < length xs → test (get_or xs i d) ≡ false →
-    filter test (drop i xs) ≡ filter test (drop (i + 1) xs)
-kept_more_no test xs i d l t = at_drop_more (filter test) xs i d l ∙ rw t refl
-
-pub kept_all : {X : Type 0} (test : X → Bool) (xs : List X) (i : ℕ) → length xs ≤ i → filter test (drop i xs) ≡ []
-kept_all test xs i l = at_drop_all (filter test) xs i l
+-- What of a list passes a test.
+use Rattle.std.proofs.Common.{◌≡◌, ℕ, Bool, true, cond, ◌&&◌, eqb, List, [], ◌∷◌, map, filter, sym, refl, ap, ◌∙◌, inl, inr}
+use Rattle.std.specs.List.{AllByRecursion, list_all}
+use Rattle.std.proofs.lemmas.List.Elements.{All-from_recursion, recursion_from_All}
+use Rattle.std.proofs.lemmas.List.Sums.{AllPass-from_list_all, list_all-from_AllPass}
+use Rattle.std.proofs.lemmas.Bool.{cases_Bool, eqb-true, eqb-false}
 
 -- two tests that agree on each element
 pub kept_same : {X : Type 0} (t u : X → Bool) (xs : List X) → AllByRecursion (λ x. t x ≡ u x) xs → filter t xs ≡ filter u xs
@@ -38,37 +26,31 @@ kept_map test f (x ∷ xs) = elim (cases_Bool (test (f x))) [
   | inr e ↦ rw e (kept_map test f xs)
 ]
 
-pub map-map : {X Y Z : Type 0} (g : Y → Z) (f : X → Y) (xs : List X) → map g (map f xs) ≡ map (λ x. g (f x)) xs
-map-map g f [] = refl
-map-map g f (x ∷ xs) = ap (λ zs. g (f x) ∷ zs) (map-map g f xs)
-
 -- every one
-pub every_from : {X : Type 0} (test : X → Bool) (xs : List X) → AllByRecursion (λ x. test x ≡ true) xs → every test xs ≡ true
-every_from test [] a = refl
-every_from test (x ∷ xs) a = and_from (test x) (every test xs) a.0 (every_from test xs a.1)
+pub every_from : {X : Type 0} (test : X → Bool) (xs : List X) → AllByRecursion (λ x. test x ≡ true) xs → list_all test xs ≡ true
+every_from test xs a = list_all-from_AllPass test xs (All-from_recursion (λ x. test x ≡ true) xs a)
 
-pub all-every : {X : Type 0} (test : X → Bool) (xs : List X) → every test xs ≡ true → AllByRecursion (λ x. test x ≡ true) xs
-all-every test [] e = tt
-all-every test (x ∷ xs) e = let p = and_parts (test x) (every test xs) e in (p.0, all-every test xs p.1)
+pub all-every : {X : Type 0} (test : X → Bool) (xs : List X) → list_all test xs ≡ true → AllByRecursion (λ x. test x ≡ true) xs
+all-every test xs e = recursion_from_All (λ x. test x ≡ true) xs (AllPass-from_list_all test xs e)
 
 -- Those with the best figure. `up_to x m` says that x is no better than m; no figure is better than `best`, and what no figure
 -- is better than, `best` is not better than either.
 pub kept_best : {X : Type 0} (up_to : ℕ → ℕ → Bool) (figure : X → ℕ) (best : ℕ) (xs : List X) → ((m n : ℕ) → up_to m n ≡ true → up_to n m ≡ true → m ≡ n) →
-    AllByRecursion (λ x. up_to (figure x) best ≡ true) xs → AllByRecursion (λ x. every (λ y. up_to (figure y) (figure x)) xs ≡ true → up_to best (figure x) ≡ true) xs →
-    filter (λ x. every (λ y. up_to (figure y) (figure x)) xs) xs ≡ filter (λ x. eqb (figure x) best) xs
+    AllByRecursion (λ x. up_to (figure x) best ≡ true) xs → AllByRecursion (λ x. list_all (λ y. up_to (figure y) (figure x)) xs ≡ true → up_to best (figure x) ≡ true) xs →
+    filter (λ x. list_all (λ y. up_to (figure y) (figure x)) xs) xs ≡ filter (λ x. eqb (figure x) best) xs
 kept_best up_to figure best xs same below tight = kept_same _ _ xs (each xs below tight)
   where
-    one : (x : _) → up_to (figure x) best ≡ true → (every (λ y. up_to (figure y) (figure x)) xs ≡ true → up_to best (figure x) ≡ true) →
-        every (λ y. up_to (figure y) (figure x)) xs ≡ eqb (figure x) best
+    one : (x : _) → up_to (figure x) best ≡ true → (list_all (λ y. up_to (figure y) (figure x)) xs ≡ true → up_to best (figure x) ≡ true) →
+        list_all (λ y. up_to (figure y) (figure x)) xs ≡ eqb (figure x) best
     one x b t = elim (cases_Bool (eqb (figure x) best)) [
       | inl e ↦ every_from (λ y. up_to (figure y) (figure x)) xs (rw (eqb-true (figure x) best e) below) ∙ sym e
-      | inr e ↦ elim (cases_Bool (every (λ y. up_to (figure y) (figure x)) xs)) [
+      | inr e ↦ elim (cases_Bool (list_all (λ y. up_to (figure y) (figure x)) xs)) [
         | inl f ↦ absurd (eqb-false (figure x) best e (same (figure x) best b (t f)))
         | inr f ↦ f ∙ sym e
       ]
     ]
 
-    each : (ys : List _) → AllByRecursion (λ x. up_to (figure x) best ≡ true) ys → AllByRecursion (λ x. every (λ y. up_to (figure y) (figure x)) xs ≡ true → up_to best (figure x) ≡ true) ys →
-        AllByRecursion (λ x. every (λ y. up_to (figure y) (figure x)) xs ≡ eqb (figure x) best) ys
+    each : (ys : List _) → AllByRecursion (λ x. up_to (figure x) best ≡ true) ys → AllByRecursion (λ x. list_all (λ y. up_to (figure y) (figure x)) xs ≡ true → up_to best (figure x) ≡ true) ys →
+        AllByRecursion (λ x. list_all (λ y. up_to (figure y) (figure x)) xs ≡ eqb (figure x) best) ys
     each [] b t = tt
     each (y ∷ ys) b t = (one y b.0 t.0, each ys b.1 t.1)

@@ -1,24 +1,17 @@
 -- The limits of waiting orders, each once, price downward: they depend only on which limits there are.
-use Rattle.std.proofs.Common.{◌≡◌, ℕ, ◌<◌, ◌≤◌, Bool, true, false, ◌||◌, eqb, ltb, ◌⊎◌, List, [], ◌∷◌, ◌++◌, sym, refl, ap, ◌∙◌, subst, inl, inr, arith}
+use Rattle.std.proofs.Common.{◌≡◌, ℕ, ◌<◌, ◌≤◌, true, false, eqb, ltb, ◌⊎◌, List, [], ◌∷◌, ◌++◌, sym, refl, ◌∙◌, subst, inl, inr, arith}
 use Rattle.std.specs.List.{AllByRecursion}
 use Rattle.std.proofs.ByRecursion.{All-weaker}
 use Rattle.std.proofs.lemmas.Bool.{cases_Bool, or_cases, or_left, or_right, both_ways, eqb-true, eqb-false, eq-eqb, ltb-true, ltb-false}
 use Rattle.market.specs.declared.order.Resting.{Resting}
-use Rattle.market.specs.Orders.{some, limit_of}
+use Rattle.market.specs.Orders.{limit_of}
 use Rattle.market.specs.Prices.{into, limits_of}
-use Rattle.pricing.proofs.Members.{swap_or}
+use Rattle.market.proofs.PeakLimits.{among, has_limit, limits_among}
 
 -- prices that go strictly downward
 abbrev pub Downward : List ℕ → Type 0
 Downward [] = Unit {0}
 Downward (p ∷ ps) = AllByRecursion (λ q. q < p) ps × Downward ps
-
--- whether q is one of the prices, and whether it is the limit of one of the orders
-abbrev pub among : ℕ → List ℕ → Bool
-among q ps = some (λ p. eqb q p) ps
-
-abbrev pub has_limit : ℕ → List Resting → Bool
-has_limit q es = some (λ e. eqb q (limit_of e)) es
 
 all_among : (P : ℕ → Type 0) (ps : List ℕ) (q : ℕ) → AllByRecursion P ps → among q ps ≡ true → P q
 all_among P [] q a e = absurd (both_ways false refl e)
@@ -59,21 +52,6 @@ same_downward (p ∷ ps) (q ∷ qs) c d f g =
     (λ r h. let l = all_among (λ x. x < q) qs r d.0 h in among_below p r ps (omega arith) (g r (or_right (eqb r q) (among r qs) h))) in
     cc
 
-or_twice : (a b : Bool) → (a || b) ≡ (a || (a || b))
-or_twice true b = refl
-or_twice false b = refl
-
--- a price that goes in is there, and what was there stays
-among_into : (q p : ℕ) (ps : List ℕ) → among q (into p ps) ≡ (eqb q p || among q ps)
-among_into q p [] = refl
-among_into q p (r ∷ rs) = elim (cases_Bool (eqb p r)) [
-  | inl t ↦ rw (t, eqb-true p r t) (or_twice (eqb q r) (among q rs))
-  | inr t ↦ elim (cases_Bool (ltb r p)) [
-    | inl u ↦ rw (t, u) refl
-    | inr u ↦ rw (t, u) (ap (λ b. eqb q r || b) (among_into q p rs) ∙ swap_or (eqb q r) (eqb q p) (among q rs))
-  ]
-]
-
 all-into : (P : ℕ → Type 0) (p : ℕ) (ps : List ℕ) → P p → AllByRecursion P ps → AllByRecursion P (into p ps)
 all-into P p [] h a = (h, tt)
 all-into P p (r ∷ rs) h a = elim (cases_Bool (eqb p r)) [
@@ -99,14 +77,10 @@ downward-into p (r ∷ rs) d = elim (cases_Bool (eqb p r)) [
   ]
 ]
 
--- limits go downward, and are those of the orders
+-- limits go downward
 pub limits_downward : (es : List Resting) → Downward (limits_of es)
 limits_downward [] = tt
 limits_downward (e ∷ es) = downward-into (limit_of e) (limits_of es) (limits_downward es)
-
-pub limits_among : (q : ℕ) (es : List Resting) → among q (limits_of es) ≡ has_limit q es
-limits_among q [] = refl
-limits_among q (e ∷ es) = among_into q (limit_of e) (limits_of es) ∙ ap (λ b. eqb q (limit_of e) || b) (limits_among q es)
 
 -- the same limits in two lists of orders
 pub limits_same : (xs ys : List Resting) → ((q : ℕ) → has_limit q xs ≡ has_limit q ys) → limits_of xs ≡ limits_of ys

@@ -1,16 +1,14 @@
 -- A line below all others goes to the end of the list.
-use Rattle.std.proofs.Common.{◌≡◌, ℕ, suc, ◌+◌, ◌<◌, Bool, false, List, [], ◌∷◌, ◌++◌, map, length, take, drop, sym, refl, ap, ◌∙◌, subst, arith}
+use Rattle.std.proofs.Common.{◌≡◌, ℕ, suc, ◌<◌, Bool, false, ltb, List, [], ◌∷◌, ◌++◌, map, length, take, drop, sym, refl, ap, ◌∙◌, subst, arith}
 use Rattle.std.specs.List.{AllByRecursion}
 use Rattle.std.proofs.lemmas.List.{take_all, drop_all, map-append, map-id}
-use Rattle.std.proofs.lemmas.Bool.{and_left, le-ltb}
+use Rattle.std.proofs.lemmas.Simd.{map-map}
+use Rattle.std.proofs.lemmas.Bool.{and_left, le-ltb, lt-ltb, cond-true}
 use Rattle.ordered_list.specs.Order.{all_after, position_of, placed}
-use Rattle.ordered_list.specs.Lists.{insert_memory, insert_len}
-use Rattle.ordered_list.proofs.Memory.{insert_room, list_insert_room}
 use Rattle.market.specs.declared.order.Resting.{Resting}
 use Rattle.market.specs.Prices.{waiting_limits}
 use Rattle.pricing.specs.declared.line.Line.{Line}
-use Rattle.pricing.specs.Lines.{price_of, by_price, line_at, lines_at}
-use Rattle.pricing.proofs.Keeping.{map-map}
+use Rattle.pricing.specs.Lines.{price_of, by_price, added, line_at, lines_at}
 use Rattle.pricing.proofs.Limits.{Downward, limits_downward, downward_above}
 
 position_last : {X : Type 0} (after : X → X → Bool) (x : X) (ys : List X) → AllByRecursion (λ y. after y x ≡ false) ys → position_of after x ys ≡ length ys
@@ -39,11 +37,6 @@ lines_above sells buys lines p ps e =
     let g : map price_of lines ++ (p ∷ ps) ≡ waiting_limits sells buys = ap (λ qs. map price_of lines ++ (p ∷ qs)) (sym (prices_lines sells buys ps)) ∙ f in
     all_prices p lines (downward_above (map price_of lines) p ps (subst Downward (sym g) (limits_downward (sells ++ buys))))
 
--- the memory's list has the line at its end, where there is room
-pub added_last : (len : ℕ) (memory memory' : List Line) (line : Line) (len' : ℕ) → len < length memory → AllByRecursion (λ l. by_price l line ≡ false) (take len memory) →
-    memory' ≡ insert_memory by_price len memory line → len' ≡ insert_len len memory → take len' memory' ≡ take len memory ++ (line ∷ [])
-added_last len memory memory' line len' room a m n =
-    let r = (insert_room by_price len memory line room).2 in
-    let l = list_insert_room by_price len memory line room in
-    let e : len' ≡ len + 1 = n ∙ sym r in
-    rw (e, m) (l ∙ placed-last by_price line (take len memory) a)
+-- where there is room, one more line goes to the end
+pub added_last : (line : Line) (lines : List Line) → length lines < 1024 → AllByRecursion (λ l. by_price l line ≡ false) lines → added line lines ≡ lines ++ (line ∷ [])
+added_last line lines room a = cond-true (ltb (length lines) 1024) _ _ (lt-ltb (length lines) 1024 room) ∙ placed-last by_price line lines a

@@ -1,21 +1,18 @@
 -- Sells the other way round go price downward, and are the same otherwise.
-use Rattle.std.proofs.Common.{◌≡◌, ℕ, ◌+◌, ◌≤◌, min, List, [], ◌∷◌, ◌++◌, reverse, length, take, drop, ap, ◌∙◌, arith}
+use Rattle.std.proofs.Common.{◌≡◌, ℕ, ◌≤◌, List, [], ◌∷◌, ◌++◌, reverse, length, take, drop, sym, ap, ◌∙◌}
 use mathlib.Core.List.{reverse_aux}
-use native.Mathlib.Nat.{min_comm}
 use Rattle.std.specs.List.{AllByRecursion}
-use Rattle.std.proofs.lemmas.List.{length-reverse, length-take-le, length-append, take_at}
-use Rattle.ordered_list.proofs.Memory.{list_whole}
+use Rattle.std.proofs.Math.Seq.{take-append_seam, drop-append_seam}
+use Rattle.std.proofs.lemmas.List.{length-reverse, reverse-append, take-append-drop}
+use Rattle.std.proofs.lemmas.List.Sorted.{IsPermutation-reverse}
 use Rattle.units.specs.declared.side.Side.TheVariants.{Sell, Buy}
 use Rattle.market.specs.declared.order.Resting.{Resting}
 use Rattle.market.specs.Orders.{total, limit_of}
+use Rattle.market.proofs.Totals.{total_moved}
 use Rattle.pricing.proofs.Sides.{Sorted}
 
-total_onto : {X : Type 0} (f : X → ℕ) (xs ys : List X) → total f (reverse_aux xs ys) ≡ total f xs + total f ys
-total_onto f [] ys = omega arith
-total_onto f (x ∷ xs) ys = omega (arith, total_onto f xs (x ∷ ys))
-
 pub total-reverse : {X : Type 0} (f : X → ℕ) (xs : List X) → total f (reverse xs) ≡ total f xs
-total-reverse f xs = omega (arith, total_onto f xs [])
+total-reverse f xs = total_moved f xs (reverse xs) (IsPermutation-reverse xs)
 
 -- one more stands in front of those that each of xs is no lower than
 one_more : (x : Resting) (ys xs : List Resting) → AllByRecursion (λ z. limit_of x ≤ limit_of z) xs → AllByRecursion (λ z. AllByRecursion (λ y. limit_of y ≤ limit_of z) ys) xs →
@@ -34,11 +31,10 @@ none_yet (x ∷ xs) = (tt, none_yet xs)
 pub sorted-reverse : (xs : List Resting) → Sorted Sell xs → Sorted Buy (reverse xs)
 sorted-reverse xs s = sorted_onto xs [] s tt (none_yet xs)
 
--- a list in front of the memory, as far as there is room, and then the other way round
-pub turned-front : {X : Type 0} (queue memory copy back : List X) (n : ℕ) → n ≡ min (length queue) (length memory) → copy ≡ take n queue → back ≡ reverse copy →
-    (n ≤ length (back ++ drop n memory)) × (take n (back ++ drop n memory) ≡ reverse (take (length memory) queue))
-turned-front queue memory copy back n m c b =
-    let l : length back ≡ n = ap length b ∙ length-reverse copy ∙ ap length c ∙ length-take-le n queue (omega arith) in
-    let h = length-append back (drop n memory) in
-    let w : take n queue ≡ take (length memory) queue = ap (λ k. take k queue) (m ∙ min_comm (length queue) (length memory)) ∙ list_whole (length memory) queue in
-    (omega arith, take_at back (drop n memory) n l ∙ b ∙ ap reverse (c ∙ w))
+-- the two parts of a list, the other way round
+pub split_reversed : {X : Type 0} (q : List X) (n : ℕ) (front back : List X) → front ≡ take n q → back ≡ drop n q →
+    (take (length back) (reverse q) ≡ reverse back) × (drop (length back) (reverse q) ≡ reverse front)
+split_reversed q n front back f b =
+    let r : reverse q ≡ reverse back ++ reverse front = ap reverse (sym (take-append-drop n q)) ∙ rw (sym f, sym b) (reverse-append front back) in
+    let l = sym (length-reverse back) in
+    (rw (r, l) (take-append_seam (reverse back) (reverse front)), rw (r, l) (drop-append_seam (reverse back) (reverse front)))

@@ -1,5 +1,5 @@
 -- The next limit of a walk price downward: no waiting limit is above it, and an order at the front has it.
-use Rattle.std.proofs.Common.{◌≡◌, ℕ, ◌+◌, ◌<◌, ◌≤◌, max, true, eqb, List, [], ◌∷◌, ◌++◌, length, get_or, Some, None, sym, refl, ap, inl, inr, arith}
+use Rattle.std.proofs.Common.{◌≡◌, ℕ, ◌+◌, ◌<◌, ◌≤◌, max, true, eqb, List, [], ◌∷◌, ◌++◌, Some, sym, ap, inl, inr, arith}
 use Rattle.std.specs.List.{AllByRecursion}
 use Rattle.std.proofs.ByRecursion.{All-weaker}
 use Rattle.std.proofs.lemmas.Bool.{eq-eqb, or_left, cases_lt}
@@ -7,19 +7,11 @@ use Rattle.units.specs.declared.quantity.Price.{Price}
 use Rattle.units.specs.declared.side.Side.TheVariants.{Buy}
 use Rattle.market.specs.declared.order.Resting.{Resting}
 use Rattle.market.specs.Orders.{limit_of}
+use Rattle.market.proofs.PeakLimits.{has_limit}
 use Rattle.pricing.specs.Levels.{front_orders}
 use Rattle.pricing.specs.Lines.{next_limit}
-use Rattle.pricing.proofs.Blank.{nothing}
 use Rattle.pricing.proofs.Sides.{Sorted}
-use Rattle.pricing.proofs.Members.{some-append_right}
-use Rattle.pricing.proofs.Limits.{has_limit}
-
--- where both lists have an order, the higher of their limits
-pub next_both : (os bs : List Resting) (n : ℕ) → 0 < length os → 0 < length bs →
-    n ≡ max (limit_of (get_or os 0 nothing)) (limit_of (get_or bs 0 nothing)) → Some (record { 0 = n }) ≡ next_limit os bs
-next_both [] bs n l m e = absurd (omega arith)
-next_both (o ∷ os) [] n l m e = absurd (omega arith)
-next_both (o ∷ os) (b ∷ bs) n l m e = rw e refl
+use Rattle.pricing.proofs.Members.{any-append_right}
 
 -- the order at the front of one list has the limit
 data Fronted (p : ℕ) : List Resting → List Resting → Type 0 where
@@ -27,7 +19,7 @@ data Fronted (p : ℕ) : List Resting → List Resting → Type 0 where
   bid : {b : Resting} {os bs : List Resting} → limit_of b ≡ p → Fronted p os (b ∷ bs)
 
 next_fronted : (os bs : List Resting) (price : Price) → next_limit os bs ≡ Some price → Fronted price.0 os bs
-next_fronted [] [] price e = absurd (let z : ◌≡◌ {A = ℕ} 0 1 = cc in omega arith)
+next_fronted [] [] price e = cc
 next_fronted (o ∷ os) [] price e = offer (let h : o.order.limit ≡ price = cc in ap (λ (v : Price). v.0) h)
 next_fronted [] (b ∷ bs) price e = bid (let h : b.order.limit ≡ price = cc in ap (λ (v : Price). v.0) h)
 next_fronted (o ∷ os) (b ∷ bs) price e =
@@ -74,15 +66,8 @@ next_top (o ∷ os) (b ∷ bs) price s t e =
 fronted_has : (p : ℕ) (os bs : List Resting) → Fronted p os bs → has_limit p (os ++ bs) ≡ true
 fronted_has p (o ∷ os) bs (offer h) = or_left (eqb p (limit_of o)) (has_limit p (os ++ bs)) (eq-eqb p (limit_of o) (sym h))
 fronted_has p os (b ∷ bs) (bid h) =
-    some-append_right (λ e. eqb p (limit_of e)) os (b ∷ bs) (or_left (eqb p (limit_of b)) (has_limit p bs) (eq-eqb p (limit_of b) (sym h)))
+    any-append_right (λ e. eqb p (limit_of e)) os (b ∷ bs) (or_left (eqb p (limit_of b)) (has_limit p bs) (eq-eqb p (limit_of b) (sym h)))
 
 -- it is one of the limits
 pub next_has : (os bs : List Resting) (price : Price) → next_limit os bs ≡ Some price → has_limit price.0 (os ++ bs) ≡ true
 next_has os bs price e = fronted_has price.0 os bs (next_fronted os bs price e)
-
--- where there is none, no order is left
-pub next_none : (os bs : List Resting) → next_limit os bs ≡ None → os ++ bs ≡ []
-next_none [] [] e = refl
-next_none (o ∷ os) [] e = absurd (let z : ◌≡◌ {A = ℕ} 0 1 = cc in omega arith)
-next_none [] (b ∷ bs) e = absurd (let z : ◌≡◌ {A = ℕ} 0 1 = cc in omega arith)
-next_none (o ∷ os) (b ∷ bs) e = absurd (let z : ◌≡◌ {A = ℕ} 0 1 = cc in omega arith)

@@ -1,8 +1,9 @@
 -- The walk price downward over both queues: what it has written, and what is left of it.
-use Rattle.std.proofs.Common.{◌≡◌, ℕ, zero, suc, ◌+◌, ◌-◌, ◌*◌, ◌<◌, ◌≤◌, true, false, cond, eqb, leb, ◌⊎◌, List, [], ◌∷◌, ◌++◌, map, reverse, take, drop, Some, None, sym, refl, ap, ◌∙◌, subst, inl, inr, append_assoc, arith}
+use Rattle.std.proofs.Common.{◌≡◌, ℕ, zero, suc, ◌+◌, ◌-◌, ◌*◌, ◌<◌, ◌≤◌, true, false, cond, eqb, leb, ◌⊎◌, List, [], ◌∷◌, ◌++◌, map, reverse, length, take, drop, Some, sym, refl, ap, ◌∙◌, subst, inl, inr, append_assoc, arith}
 use Rattle.std.specs.List.{AllByRecursion}
 use Rattle.std.proofs.ByRecursion.{All-weaker, All-append, All-drop}
-use Rattle.std.proofs.lemmas.List.{take-append-drop, append-nil}
+use Rattle.std.proofs.lemmas.List.{take-append-drop, length-append, length-drop, length-reverse}
+use Rattle.std.proofs.lemmas.List.Sums.{prefix_len-le-length}
 use Rattle.std.proofs.lemmas.Bool.{eqb-true, le-leb, lt-leb}
 use Rattle.units.specs.declared.quantity.Price.{Price}
 use Rattle.units.specs.declared.side.Side.TheVariants.{Sell, Buy}
@@ -10,20 +11,24 @@ use Rattle.market.specs.declared.order.Resting.{Resting}
 use Rattle.market.specs.Orders.{total, limit_of, lots_of, lots_in}
 use Rattle.market.specs.Prices.{supply, demand, limits_of}
 use Rattle.market.specs.Queues.{Queues}
+use Rattle.market.proofs.PeakLimits.{has_limit}
+use Rattle.market.proofs.QueueEntries.{all_both}
+use Rattle.market.proofs.Totals.{total-append, all_first, all_second}
 use Rattle.pricing.specs.declared.line.Line.{Line}
 use Rattle.pricing.specs.Levels.{front_orders, front_lots}
 use Rattle.pricing.specs.Lines.{line_at, lines_at, next_limit}
-use Rattle.pricing.proofs.Each.{all_parts, all_both, all_any}
+use Rattle.pricing.proofs.Each.{all_any}
 use Rattle.pricing.proofs.Sides.{Sorted, queue_sorted}
-use Rattle.pricing.proofs.Totals.{total-append, total_none, total-whole}
+use Rattle.pricing.proofs.Totals.{total_none, total-whole}
 use Rattle.pricing.proofs.Reversed.{total-reverse, sorted-reverse}
 use Rattle.pricing.proofs.Fronts.{front_at, front_lots_lem, front_le, rest_beyond}
-use Rattle.pricing.proofs.Members.{some_gives, some-append_cases, some-append-left, some-append_right, some-reverse}
-use Rattle.pricing.proofs.Limits.{has_limit, limits_same, limits_top}
-use Rattle.pricing.proofs.Tops.{next_top, next_has, next_none}
+use Rattle.pricing.proofs.Members.{any_gives, any-append_cases, any-append-left, any-append_right, any-reverse}
+use Rattle.pricing.proofs.Limits.{limits_same, limits_top}
+use Rattle.pricing.proofs.Tops.{next_top, next_has, next_some}
 
 -- os and bs are left of the two queues, price downward, s lots of os and d lots of bids passed: the lines so far with those at
--- the limits left are all lines, and at a limit left what is passed adds d to the demand and nothing to the supply
+-- the limits left are all lines, and at a limit left what is passed adds d to the demand and nothing to the supply;
+-- and there is room for a line for each order left
 pub record Walked (sells buys os bs : List Resting) (lines : List Line) (s d : ℕ) : Type 0 where
   pub offers_down : Sorted Buy os
   pub bids_down : Sorted Buy bs
@@ -33,11 +38,12 @@ pub record Walked (sells buys os bs : List Resting) (lines : List Line) (s d : �
   pub asked : AllByRecursion (λ e. demand buys (limit_of e) ≡ d + demand bs (limit_of e)) (os ++ bs)
   pub few : s ≤ lots_in sells
   pub fewer : d + lots_in bs ≤ lots_in buys
+  pub room : length lines + length os + length bs ≤ 1024
 
 -- what holds at each order's limit holds at a limit that one has
 at_limit : (F : ℕ → Type 0) (es : List Resting) (p : ℕ) → AllByRecursion (λ e. F (limit_of e)) es → has_limit p es ≡ true → F p
 at_limit F es p a h =
-    some_gives (λ e. eqb p (limit_of e)) (F p) es (All-weaker (λ e. F (limit_of e)) (λ e. eqb p (limit_of e) ≡ true → F p) (λ e f t. subst F (sym (eqb-true p (limit_of e) t)) f) es a) h
+    any_gives (λ e. eqb p (limit_of e)) (F p) es (All-weaker (λ e. F (limit_of e)) (λ e. eqb p (limit_of e) ≡ true → F p) (λ e f t. subst F (sym (eqb-true p (limit_of e) t)) f) es a) h
 
 sorted-drop : (n : ℕ) (es : List Resting) → Sorted Buy es → Sorted Buy (drop n es)
 sorted-drop zero es s = s
@@ -50,13 +56,13 @@ limit_cases p q es h =
     let t = take (front_orders p es) es in
     let r = drop (front_orders p es) es in
     let k : has_limit q (t ++ r) ≡ true = ap (has_limit q) (take-append-drop (front_orders p es) es) ∙ h in
-    elim (some-append_cases (λ e. eqb q (limit_of e)) t r k) [
-      | inl u ↦ inl (some_gives (λ e. eqb q (limit_of e)) (q ≡ p) t (All-weaker (λ e. limit_of e ≡ p) (λ e. eqb q (limit_of e) ≡ true → q ≡ p) (λ e f v. eqb-true q (limit_of e) v ∙ f) t (front_at p es)) u)
+    elim (any-append_cases (λ e. eqb q (limit_of e)) t r k) [
+      | inl u ↦ inl (any_gives (λ e. eqb q (limit_of e)) (q ≡ p) t (All-weaker (λ e. limit_of e ≡ p) (λ e. eqb q (limit_of e) ≡ true → q ≡ p) (λ e f v. eqb-true q (limit_of e) v ∙ f) t (front_at p es)) u)
       | inr u ↦ inr u
     ]
 
 limit_behind : (n q : ℕ) (es : List Resting) → has_limit q (drop n es) ≡ true → has_limit q es ≡ true
-limit_behind n q es h = sym (ap (has_limit q) (take-append-drop n es)) ∙ some-append_right (λ e. eqb q (limit_of e)) (take n es) (drop n es) h
+limit_behind n q es h = sym (ap (has_limit q) (take-append-drop n es)) ∙ any-append_right (λ e. eqb q (limit_of e)) (take n es) (drop n es) h
 
 -- a figure over a list is that over the level in front and that over the rest
 level_total : (f : Resting → ℕ) (p : ℕ) (es : List Resting) → total f es ≡ total f (take (front_orders p es) es) + total f (drop (front_orders p es) es)
@@ -85,19 +91,14 @@ pub walk_starts : (sells buys os : List Resting) (s : ℕ) → os ≡ reverse se
 walk_starts sells buys os s e q h = record {
   offers_down = subst (Sorted Buy) (sym e) (sorted-reverse sells (queue_sorted Sell sells q.of_sells));
   bids_down = queue_sorted Buy buys q.of_buys;
-  rest = ap (map (line_at sells buys)) (limits_same (os ++ buys) (sells ++ buys) (λ p. ap (λ os'. has_limit p (os' ++ buys)) e ∙ some-reverse (λ x. eqb p (limit_of x)) sells buys));
+  rest = ap (map (line_at sells buys)) (limits_same (os ++ buys) (sells ++ buys) (λ p. ap (λ os'. has_limit p (os' ++ buys)) e ∙ any-reverse (λ x. eqb p (limit_of x)) sells buys));
   offered = h;
   supplied = all_any _ (λ x. sym (ap (λ os'. supply os' (limit_of x)) e ∙ total-reverse (λ y. cond (leb (limit_of y) (limit_of x)) (lots_of y) 0) sells)) (os ++ buys);
   asked = all_any _ (λ x. omega arith) (os ++ buys);
   few = omega (arith, h, ap lots_in e, total-reverse lots_of sells);
   fewer = omega arith;
+  room = omega (arith, ap length e, length-reverse sells, q.of_sells.short, q.of_buys.short);
 }
-
--- it ends with none left
-pub walk_ends : (sells buys os bs : List Resting) (lines : List Line) (s d : ℕ) → Walked sells buys os bs lines s d → next_limit os bs ≡ None → lines ≡ lines_at sells buys
-walk_ends sells buys os bs lines s d w n =
-    let e = ap (λ es. lines ++ map (line_at sells buys) (limits_of es)) (next_none os bs n) in
-    sym (append-nil lines) ∙ sym e ∙ w.rest
 
 -- what is below p of a list that the level at p stands in front of
 below_top : (p : ℕ) (es : List Resting) → Sorted Buy es → AllByRecursion (λ x. limit_of x ≤ p) es → AllByRecursion (λ x. limit_of x < p) (drop (front_orders p es) es)
@@ -107,10 +108,9 @@ below_top p es s a = rest_beyond Buy p es s a
 further : (P R : Resting → Type 0) (p : ℕ) (os bs : List Resting) → AllByRecursion (λ x. limit_of x < p) (drop (front_orders p os) os) → AllByRecursion (λ x. limit_of x < p) (drop (front_orders p bs) bs) →
     ((x : Resting) → limit_of x < p → P x → R x) → AllByRecursion P (os ++ bs) → AllByRecursion R (drop (front_orders p os) os ++ drop (front_orders p bs) bs)
 further P R p os bs a b f h =
-    let k = all_parts P os bs h in
     All-append R (drop (front_orders p os) os) (drop (front_orders p bs) bs)
-    (all_both (λ x. limit_of x < p) P R f (drop (front_orders p os) os) a (All-drop P (front_orders p os) os k.0))
-    (all_both (λ x. limit_of x < p) P R f (drop (front_orders p bs) bs) b (All-drop P (front_orders p bs) bs k.1))
+    (all_both (λ x. limit_of x < p) P R f (drop (front_orders p os) os) a (All-drop P (front_orders p os) os (all_first P os bs h)))
+    (all_both (λ x. limit_of x < p) P R f (drop (front_orders p bs) bs) b (All-drop P (front_orders p bs) bs (all_second P os bs h)))
 
 -- the limits left are p and those behind the levels at p
 limits_next : (p : ℕ) (os bs : List Resting) → has_limit p (os ++ bs) ≡ true → AllByRecursion (λ x. limit_of x < p) (drop (front_orders p os) os) → AllByRecursion (λ x. limit_of x < p) (drop (front_orders p bs) bs) →
@@ -119,19 +119,19 @@ limits_next p os bs h a b =
     let os' = drop (front_orders p os) os in
     let bs' = drop (front_orders p bs) bs in
     limits_top p (os ++ bs) (os' ++ bs') h (All-append (λ x. limit_of x < p) os' bs' a b)
-    (λ q k. elim (some-append_cases (λ e. eqb q (limit_of e)) os bs k) [
+    (λ q k. elim (any-append_cases (λ e. eqb q (limit_of e)) os bs k) [
       | inl u ↦ elim (limit_cases p q os u) [
         | inl v ↦ inl v
-        | inr v ↦ inr (some-append-left (λ e. eqb q (limit_of e)) os' bs' v)
+        | inr v ↦ inr (any-append-left (λ e. eqb q (limit_of e)) os' bs' v)
       ]
       | inr u ↦ elim (limit_cases p q bs u) [
         | inl v ↦ inl v
-        | inr v ↦ inr (some-append_right (λ e. eqb q (limit_of e)) os' bs' v)
+        | inr v ↦ inr (any-append_right (λ e. eqb q (limit_of e)) os' bs' v)
       ]
     ])
-    (λ q k. elim (some-append_cases (λ e. eqb q (limit_of e)) os' bs' k) [
-      | inl u ↦ some-append-left (λ e. eqb q (limit_of e)) os bs (limit_behind (front_orders p os) q os u)
-      | inr u ↦ some-append_right (λ e. eqb q (limit_of e)) os bs (limit_behind (front_orders p bs) q bs u)
+    (λ q k. elim (any-append_cases (λ e. eqb q (limit_of e)) os' bs' k) [
+      | inl u ↦ any-append-left (λ e. eqb q (limit_of e)) os bs (limit_behind (front_orders p os) q os u)
+      | inr u ↦ any-append_right (λ e. eqb q (limit_of e)) os bs (limit_behind (front_orders p bs) q bs u)
     ])
 
 -- the line that the walk writes at p is the one at p
@@ -172,6 +172,7 @@ walk_next sells buys os bs lines s d price w n =
     let lb = level_total lots_of p bs in
     let fo = front_lots_lem p os in
     let fb = front_lots_lem p bs in
+    let lengths = length-append lines (line_at sells buys p ∷ []) in
     record {
       offers_down = sorted-drop (front_orders p os) os w.offers_down;
       bids_down = sorted-drop (front_orders p bs) bs w.bids_down;
@@ -183,6 +184,16 @@ walk_next sells buys os bs lines s d price w n =
           (λ x l e. let k = demand_below p (limit_of x) bs (omega arith) in omega (arith, k, e)) w.asked;
       few = omega (arith, w.few);
       fewer = omega (arith, lb, fb, w.fewer);
+      room = omega (
+        arith,
+        next_some os bs price n,
+        lengths,
+        prefix_len-le-length (λ e. eqb (limit_of e) p) os,
+        prefix_len-le-length (λ e. eqb (limit_of e) p) bs,
+        length-drop (front_orders p os) os,
+        length-drop (front_orders p bs) bs,
+        w.room,
+      );
     }
 
 -- nothing that the walk counts is more than the queues have

@@ -1,14 +1,13 @@
 -- Lines as the summary has them, written over the front of a slice.
-use Rattle.std.proofs.Common.{◌≡◌, ℕ, ◌+◌, ◌<◌, ◌≤◌, List, [], ◌∷◌, ◌++◌, map, length, get_or, take, drop, set, Ok, Err, sym, refl, ap, ◌∙◌, append_assoc, arith}
-use Rattle.std.proofs.lemmas.List.{drop_more, map_more, set_at, length-map, length-take-le, take_all}
-use Rattle.std.proofs.lemmas.Bool.{le-leb, lt-leb, cond-true, cond-false}
+use Rattle.std.proofs.Common.{◌≡◌, ℕ, ◌+◌, ◌<◌, ◌≤◌, List, [], ◌∷◌, ◌++◌, map, length, get_or, take, drop, set, sym, refl, ap, ◌∙◌, append_assoc, arith}
+use Rattle.std.proofs.lemmas.List.{drop_more, map_more, set_at, length-map, length-take-le}
+use Rattle.std.proofs.lemmas.Bool.{le-leb, cond-true}
 use Rattle.market.specs.declared.order.Resting.{Resting}
 use Rattle.market.specs.declared.summary.SummaryLine.{SummaryLine}
-use Rattle.market.specs.declared.fault.SessionFault.TheVariants.{SliceTooShort}
 use Rattle.market.specs.Prices.{waiting_limits, summary, summary_line}
 use Rattle.pricing.specs.declared.line.Line.{Line}
 use Rattle.pricing.specs.Lines.{line_at, lines_at, summary_of}
-use Rattle.pricing.specs.Summaries.{line_count, fits, summary_answer, summary_after}
+use Rattle.pricing.specs.Summaries.{line_count, fits, summary_after}
 
 -- one line more
 pub written_more : {X Y : Type 0} (f : X → Y) (xs : List X) (ys zs : List Y) (i : ℕ) (d : X) → i < length xs → i < length ys →
@@ -22,13 +21,6 @@ written_more f xs ys zs i d l m e =
     sym (append_assoc (map f (take i xs)) (y ∷ []) (drop (i + 1) ys)) ∙
     ap (λ vs. vs ++ drop (i + 1) ys) (sym (map_more f xs i d l))
 
--- all lines
-pub written_all : {X Y : Type 0} (f : X → Y) (xs : List X) (ys zs : List Y) (i : ℕ) → length xs ≤ i → i ≤ length xs →
-    zs ≡ map f (take i xs) ++ drop i ys → zs ≡ map f xs ++ drop (length xs) ys
-written_all f xs ys zs i l m e =
-    let n : i ≡ length xs = omega arith in
-    e ∙ ap (λ k. map f (take k xs) ++ drop k ys) n ∙ ap (λ vs. map f vs ++ drop (length xs) ys) (take_all (length xs) xs (omega arith))
-
 -- what the walk finds is the summary
 pub summary_lines : (sells buys : List Resting) → map summary_of (lines_at sells buys) ≡ summary sells buys
 summary_lines sells buys = each (waiting_limits sells buys)
@@ -37,24 +29,12 @@ summary_lines sells buys = each (waiting_limits sells buys)
     each [] = refl
     each (p ∷ ps) = ap (λ ls. summary_line sells buys p ∷ ls) (each ps)
 
--- it has as many lines as there are waiting limits
-pub lines_count : (sells buys : List Resting) (memory : List Line) (n : ℕ) → n ≤ length memory → take n memory ≡ lines_at sells buys → n ≡ line_count sells buys
-lines_count sells buys memory n l e = sym (length-take-le n memory l) ∙ ap length e ∙ length-map (waiting_limits sells buys) (line_at sells buys)
-
--- the slice is too short
-pub summary_refused : (sells buys : List Resting) (lines : List SummaryLine) (n : ℕ) → n ≡ line_count sells buys → length lines < n →
-    (Err SliceTooShort ≡ summary_answer sells buys lines) × (lines ≡ summary_after sells buys lines)
-summary_refused sells buys lines n e l =
-    let t = lt-leb (line_count sells buys) (length lines) (omega arith) in
-    (sym (cond-false (fits sells buys lines) _ _ t), sym (cond-false (fits sells buys lines) _ _ t))
-
--- the slice is long enough
-pub summary-given : (sells buys : List Resting) (lines after : List SummaryLine) (walked : List Line) (n : ℕ) → n ≡ line_count sells buys → n ≤ length lines →
-    walked ≡ lines_at sells buys → after ≡ map summary_of walked ++ drop (length walked) lines →
-    (Ok n ≡ summary_answer sells buys lines) × (after ≡ summary_after sells buys lines)
-summary-given sells buys lines after walked n e l w a =
-    let t = le-leb (line_count sells buys) (length lines) (omega arith) in
+-- the slice after it, where it is long enough
+pub summary_written : (sells buys : List Resting) (lines after : List SummaryLine) (walked : List Line) → walked ≡ lines_at sells buys → length walked ≤ length lines →
+    after ≡ map summary_of walked ++ drop (length walked) lines → after ≡ summary_after sells buys lines
+summary_written sells buys lines after walked w l a =
     let c : length walked ≡ line_count sells buys = ap length w ∙ length-map (waiting_limits sells buys) (line_at sells buys) in
+    let t = le-leb (line_count sells buys) (length lines) (omega arith) in
     let b : after ≡ summary sells buys ++ drop (line_count sells buys) lines =
     a ∙ ap (λ k. map summary_of walked ++ drop k lines) c ∙ ap (λ vs. vs ++ drop (line_count sells buys) lines) (ap (map summary_of) w ∙ summary_lines sells buys) in
-    (ap Ok e ∙ sym (cond-true (fits sells buys lines) _ _ t), b ∙ sym (cond-true (fits sells buys lines) _ _ t))
+    b ∙ sym (cond-true (fits sells buys lines) _ _ t)

@@ -15,11 +15,6 @@ abbrev pub least_of : ℕ → List ℕ → ℕ
 least_of top [] = top
 least_of top (n ∷ ns) = min n (least_of top ns)
 
--- the last of a list of numbers, or `start` where there is none
-abbrev pub last_or : ℕ → List ℕ → ℕ
-last_or start [] = start
-last_or start (n ∷ ns) = last_or n ns
-
 -- the least imbalance of the lines with this volume
 abbrev pub least_imbalance : ℕ → List Line → ℕ
 least_imbalance volume lines = least_of (2 ^ 64 - 1) (map imbalance_of (filter (λ l. nat_eq (volume_of l) volume) lines))

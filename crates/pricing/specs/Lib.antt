@@ -3,4 +3,3 @@ pub mod Levels
 pub mod Lines
 pub mod Summaries
 pub mod Candidates
-pub mod Earliest

@@ -1,6 +1,7 @@
 -- What waits at each limit, and the walk that finds it: both queues price downward, a level at a time.
-use Rattle.std.specs.Prelude.{ℕ, min, max, Bool, List, [], ◌∷◌, map, pos, ◌-ℤ◌, Some, None, Option}
+use Rattle.std.specs.Prelude.{ℕ, min, max, Bool, cond, List, [], ◌∷◌, map, length, pos, ◌-ℤ◌, Some, None, Option, nat_lt}
 use Rattle.ordered_list.specs.Keys.{downward}
+use Rattle.ordered_list.specs.Order.{placed}
 use Rattle.units.specs.declared.quantity.Price.{Price}
 use Rattle.market.specs.declared.order.Resting.{Resting}
 use Rattle.market.specs.declared.summary.SummaryLine.{SummaryLine}
@@ -14,6 +15,10 @@ price_of l = l.price.0
 -- the order of the lines: price downward
 abbrev pub by_price : Line → Line → Bool
 by_price = downward price_of
+
+-- the lines with one more at its place, where there are fewer than two queues can have
+abbrev pub added : Line → List Line → List Line
+added line lines = cond (nat_lt (length lines) 1024) (placed by_price line lines) lines
 
 -- the line at p, and the lines at all waiting limits
 abbrev pub line_at : List Resting → List Resting → ℕ → Line

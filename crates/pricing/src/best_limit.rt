@@ -3,7 +3,7 @@ ghost use Rattle.market.specs.Queues.{Queue};
 ghost use Rattle.units.specs.declared.side.Side.{Side};
 ghost use Rattle.pricing.specs.Best.{best_of};
 
-use super::level::front_level;
+use super::level::first_level;
 use market::Resting;
 use units::{Lots, Price};
 
@@ -11,11 +11,6 @@ use units::{Lots, Price};
 pub fn best(queue: &[Resting]) -> Option<(Price, Lots)>
     ensures { (side : Side) → Queue side queue.now → result ≡ best_of side queue.now }
 {
-    match queue {
-        [] => None,
-        [first, ..] => {
-            let limit = first.order.limit;
-            Some((limit, front_level(queue, limit).lots))
-        }
-    }
+    let limit = queue.first()?.order.limit;
+    Some((limit, first_level(queue, limit).lots))
 }

@@ -5,17 +5,12 @@
 
 mod best_limit;
 mod candidates;
-mod crossing;
-mod cut;
-mod earliest;
 mod level;
 mod line;
-mod settling;
-mod summaries;
-mod turned;
-mod walk;
+mod lines;
+mod span;
+mod waiting;
 
 pub use best_limit::best;
-pub use cut::cut_off;
 pub use level::lots_in;
-pub use summaries::summary;
+pub use waiting::Waiting;

@@ -1,16 +1,11 @@
-use Rattle.std.proofs.Common.{map, arith}
-use Rattle.std.proofs.lemmas.List.{at_drop_more, at_drop_all}
-use Rattle.market.specs.CutOff.{highest}
+use Rattle.std.proofs.Common.{rules}
+use Rattle.std.proofs.lemmas.Iterator.{YieldsList-from_slice, YieldsList-from_map_by}
 use Rattle.pricing.specs.Candidates.{volume_of}
-use Rattle.pricing.proofs.Blank.{no_line}
+use Rattle.pricing.proofs.Figures.{highest_found}
 use Rattle.pricing.proofs.candidates.greatest_volume.Goals as goal
-
-pub loop-line-preserved : goal.loop-line-preserved
-loop-line-preserved c =
-    let m = at_drop_more (λ ls. highest (map volume_of ls)) c.args.lines.now c.loop-line.line-index no_line c.loop-line-test.true in
-    omega (arith, m, c.loop-line.invariant, c.max-greatest.ensures, c.volume.ensures)
 
 pub returns : goal.returns
 returns c =
-    let m = at_drop_all (λ ls. highest (map volume_of ls)) c.args.lines.now c.loop-line.line-index c.loop-line-test.false in
-    omega (arith, m, c.loop-line.invariant)
+    highest_found c.max.result c.max.ensures.ran
+    (YieldsList-from_map_by _ (λ v. v.0) volume_of (YieldsList-from_slice c.args.lines.now cc) c.map.ensures.closure (λ x r q k. search rules))
+    c.unwrap_or_default.ensures (λ y h. search rules)
