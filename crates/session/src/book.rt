@@ -8,6 +8,7 @@ ghost use Rattle.session.specs.Lists.{first_with, without_first};
 use super::queue::Queue;
 use arrayvec::ArrayVec;
 use market::{Cancellation, Deal, Order, OrderNumber, Resting};
+use pricing::Waiting;
 use units::{Lots, Participant, Side};
 
 /// What a session has written down: order records, the two queues, deals and cancellations. None of the lists can overflow:
@@ -83,8 +84,19 @@ impl Book {
         }
     }
 
+    /// The two queues.
+    pub(crate) fn queues(&self) -> Waiting<'_>
+        ensures sells { result.sells.now ≡ self.now.sells }
+        ensures buys { result.buys.now ≡ self.now.buys }
+    {
+        Waiting {
+            sells: self.sells.entries(),
+            buys: self.buys.entries(),
+        }
+    }
+
     /// What waits of an order, if anything does.
-    pub(crate) fn waiting(&self, number: OrderNumber) -> Option<Resting>
+    pub(crate) fn entry_of(&self, number: OrderNumber) -> Option<Resting>
         ensures { result ≡ first_with number.0 (self.now.sells ++ self.now.buys) }
     {
         self.sells
