@@ -1,7 +1,6 @@
 -- To take an order's entry out and note it is to annul what waits of the order.
 use Rattle.std.proofs.Common.{◌≡◌, ℕ, ◌+◌, Bool, true, false, cond, not, eqb, ◌≢◌, List, [], ◌∷◌, ◌++◌, map, Some, None, sym, refl, ap, ◌∙◌, subst, arith}
 use Rattle.std.specs.List.{AllByRecursion}
-use Rattle.std.proofs.lemmas.List.{append-nil}
 use Rattle.std.proofs.lemmas.Bool.{eqb-true, eqb-false, ne_eqb}
 use Rattle.depository.specs.Calls.{release_after}
 use Rattle.market.specs.declared.order.Resting.{Resting}
@@ -9,7 +8,7 @@ use Rattle.market.specs.Orders.{number_of, lots_of, waiting_lots, cover_of}
 use Rattle.market.specs.State.{State, waiting}
 use Rattle.market.specs.Calls.{entries_of, without, cancellation_of, released, annulled}
 use Rattle.market.specs.Law.{Distinct}
-use Rattle.market.proofs.Totals.{all_first, all_second}
+use Rattle.market.proofs.Totals.{all_first}
 use Rattle.session.specs.Lists.{first_with, without_first}
 use Rattle.session.proofs.Places.{none_some}
 use Rattle.session.proofs.Same.{same_state}
@@ -60,17 +59,6 @@ first_none n (x ∷ q) f = by (eqb (number_of x) n) refl (λ h. first_none n q h
     by : (t : Bool) → eqb (number_of x) n ≡ t → (first_with n q ≡ None → AllByRecursion (λ y. number_of y ≢ n) q) → cond t (Some x) (first_with n q) ≡ None → AllByRecursion (λ y. number_of y ≢ n) (x ∷ q)
     by true h r f = absurd (none_some x (sym f))
     by false h r f = (eqb-false (number_of x) n h, r f)
-
--- an order of which nothing waits: to annul it changes nothing
-pub annulled_nothing : (n : ℕ) (s : State) → first_with n (waiting s) ≡ None → (waiting_lots n (waiting s) ≡ 0) × (s ≡ annulled n s)
-annulled_nothing n s f =
-    let a = first_none n (waiting s) f in
-    let w = none_of n (waiting s) a in
-    let x = (none_of n s.sells (all_first (λ y. number_of y ≢ n) s.sells s.buys a)).0 in
-    let y = (none_of n s.buys (all_second (λ y. number_of y ≢ n) s.sells s.buys a)).0 in
-    let cs : s.cancellations ≡ s.cancellations ++ map cancellation_of (entries_of n (waiting s)) = sym (ap (λ es. s.cancellations ++ map cancellation_of es) w.1 ∙ append-nil s.cancellations) in
-    let accounts : s.accounts ≡ released s.accounts (entries_of n (waiting s)) = sym (ap (released s.accounts) w.1) in
-    (w.2, same_state s (annulled n s) refl refl (sym x) (sym y) refl cs accounts)
 
 -- an order that waits: its entry goes, its cover is released, and it is noted
 pub annulled_one : (n : ℕ) (s t : State) (e : Resting) → Distinct (waiting s) → first_with n (waiting s) ≡ Some e →

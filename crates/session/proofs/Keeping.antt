@@ -1,12 +1,14 @@
--- What is annulled leaves a session what calls rely on.
-use Rattle.std.proofs.Common.{[], sym, subst, arith}
+-- What calls leave of a session is what calls rely on.
+use Rattle.std.proofs.Common.{◌≡◌, Bool, [], sym, subst, arith}
 use Rattle.market.specs.declared.phase.Phase.{Phase}
 use Rattle.market.specs.declared.phase.Phase.TheVariants.{Gathering, Struck, Continuous, Closed}
+use Rattle.market.specs.declared.call.Call.{Call}
 use Rattle.market.specs.State.{State}
 use Rattle.market.specs.Calls.{all_annulled}
+use Rattle.market.specs.Runs.{session_after}
 use Rattle.market.specs.Law.{AtBest, Books, KeptIn, Kept}
 use Rattle.market.proofs.Annulling.{each_keeps, all_gone}
-use Rattle.market.proofs.KeptCalls.{books-all}
+use Rattle.market.proofs.KeptCalls.{books-all, kept_call}
 
 kept_in_all : (p : Phase) (s : State) → Books s → KeptIn p s → KeptIn p (all_annulled s)
 kept_in_all Gathering s b k = books-all s b
@@ -19,3 +21,7 @@ kept_in_all Closed s b k = all_gone s b.recorded
 
 pub kept_all : (s : State) → Books s → Kept s → Kept (all_annulled s)
 kept_all s b k = subst (λ p. KeptIn p (all_annulled s)) (sym (each_keeps s.orders s).2) (kept_in_all s.phase s b k)
+
+-- and so does every call
+pub kept_after : (call : Call) (slip : Bool) (s t : State) → Kept s → t ≡ session_after call (record { session = s; slip = slip }) → Kept t
+kept_after call slip s t k e = subst Kept (sym e) (kept_call call (record { session = s; slip = slip }) k)

@@ -1,12 +1,10 @@
-pub mod Admissions
 pub mod Annulments
+pub mod Blocked
 pub mod Clearing
 pub mod Keeping
 pub mod Lines
-pub mod Openings
 pub mod Places
 pub mod RunSteps
 pub mod Same
 pub mod Slotting
-pub mod Strikes
 pub mod Withdrawals

@@ -85,8 +85,8 @@ impl Book {
         }
     }
 
-    /// Both queues.
-    pub(crate) fn both_queues(&self) -> Waiting<'_>
+    /// The two queues.
+    pub(crate) fn queues(&self) -> Waiting<'_>
         ensures sells { result.sells.now ≡ self.now.sells }
         ensures buys { result.buys.now ≡ self.now.buys }
     {
@@ -97,7 +97,7 @@ impl Book {
     }
 
     /// What waits of an order, if anything does.
-    pub(crate) fn waiting(&self, number: OrderNumber) -> Option<Resting>
+    pub(crate) fn entry_of(&self, number: OrderNumber) -> Option<Resting>
         ensures { result ≡ first_with number.0 (self.now.sells ++ self.now.buys) }
     {
         self.sells

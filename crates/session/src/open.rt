@@ -42,10 +42,6 @@ impl<D: Depository> Session<D> {
 fn nothing_blocked<B: AccountBook>(book: &B) -> bool
     ensures { result ≡ nothing_blocked (B.AccountBook.accounts book.now) }
 {
-    for account in EachAccount::of(book) {
-        if account.blocked_lots != Lots(0) || account.blocked_money != Money(0) {
-            return false;
-        }
-    }
-    true
+    EachAccount::of(book).all(|account| account.blocked_lots == Lots(0)
+        && account.blocked_money == Money(0))
 }

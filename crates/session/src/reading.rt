@@ -22,7 +22,7 @@ impl<D: Depository> Session<D> {
         ensures answer { result ≡ summary_answer self.now.state.sells self.now.state.buys lines.old }
         ensures after { lines.new ≡ summary_after self.now.state.sells self.now.state.buys lines.old }
     {
-        self.book.both_queues().summary(lines)
+        self.book.queues().summary(lines)
     }
 
     /// Where the session stands.

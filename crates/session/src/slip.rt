@@ -2,6 +2,8 @@ ghost use Rattle.std.specs.Prelude.{◌≡◌, true, false};
 
 /// What a strike hands out: it stands for an iteration that is struck and has still to end. It names no session and no
 /// price. Deal and annul take it, and nothing else does: it can be kept and handed on, and not let go before it is spent.
+// The flag is what the drop asks about: without a `Drop` of its own, a slip let go would be turned away by the compiler, and not
+// by the prover.
 pub struct StrikeSlip {
     spent: bool,
 }

@@ -39,6 +39,6 @@ impl<D: Depository> Session<D> {
     fn cut_off(&self) -> Option<Price>
         ensures { result ≡ cut_off_found self.now.state.sells self.now.state.buys }
     {
-        self.book.both_queues().cut_off()
+        self.book.queues().cut_off()
     }
 }

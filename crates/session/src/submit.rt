@@ -30,7 +30,7 @@ impl<D: Depository> Session<D> {
             return Err(SessionFault::WrongPhase);
         }
         in_range(order)?;
-        if self.book.orders.len() >= 512 {
+        if self.book.orders.is_full() {
             return Err(SessionFault::SessionFull);
         }
         if self.is_in_the_way(order) {

@@ -38,6 +38,6 @@ impl<D: Depository> Session<D> {
         if !self.book.is_own(who, number) {
             return Err(SessionFault::NotOwnOrder);
         }
-        self.book.waiting(number).ok_or(SessionFault::NothingWaits)
+        self.book.entry_of(number).ok_or(SessionFault::NothingWaits)
     }
 }

@@ -1,15 +1,17 @@
-use Rattle.std.proofs.Common.{true, refl}
+use Rattle.std.proofs.Common.{◌≡◌, rules, sym, subst}
 use Rattle.market.specs.declared.phase.Phase.TheVariants.{Gathering}
+use Rattle.market.specs.Calls.{opened}
+use Rattle.market.specs.Law.{Kept}
+use Rattle.market.proofs.KeptBooks.{kept_opened}
 use Rattle.market.proofs.KeptCalls.{kept_call}
 use Rattle.session.specs.States.{state_in}
-use Rattle.session.proofs.Openings.{opens}
 use Rattle.session.proofs.session.Session.open.Goals as goal
 
 pub invariant_of-result : goal.invariant_of-result
 invariant_of-result g c =
-    let n = c.new.ensures in
-    (opens (state_in Gathering c.new.result (g.D.AccountBook.accounts c.args.depository)) true c.if-nothing_blocked.ensures refl
-    n.orders n.sells n.buys n.deals n.cancellations (g.met.D.AccountBook.everyone c.args.depository)).1
+    let accounts = g.D.AccountBook.accounts c.args.depository in
+    let as_opened : state_in Gathering c.new.result accounts ≡ opened accounts = search rules in
+    subst Kept (sym as_opened) (kept_opened accounts (g.met.D.AccountBook.everyone c.args.depository))
 
 pub returns-then-nothing_blocked-clause-kept : goal.returns-then-nothing_blocked-clause-kept
 returns-then-nothing_blocked-clause-kept g c = invariant_of-result g c

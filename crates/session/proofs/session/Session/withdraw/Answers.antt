@@ -1,12 +1,13 @@
-use Rattle.std.proofs.Common.{◌≡◌, ◌++◌, Ok, sym, refl, ap, subst, ◌∙◌}
+use Rattle.std.proofs.Common.{◌≡◌, ◌++◌, false, Ok, sym, refl, ap, subst, ◌∙◌}
 use Rattle.units.proofs.Checks.{ok_not_err}
 use Rattle.depository.specs.Calls.{release_answer, release_after}
+use Rattle.market.specs.declared.call.Call.TheVariants.{Withdraw}
 use Rattle.market.specs.State.{waiting}
 use Rattle.market.specs.Calls.{withdraw_answer, withdraw_after}
-use Rattle.market.specs.Law.{Books, Kept}
-use Rattle.market.proofs.KeptCalls.{kept_withdraw}
+use Rattle.market.specs.Law.{Books}
 use Rattle.session.specs.Lists.{first_with}
 use Rattle.session.specs.States.{state_in}
+use Rattle.session.proofs.Keeping.{kept_after}
 use Rattle.session.proofs.Annulments.{first_number}
 use Rattle.session.proofs.Withdrawals.{cover_waits, withdrawn}
 use Rattle.session.proofs.session.Session.withdraw.Given as given
@@ -61,8 +62,9 @@ after g c =
 pub invariant_of-self-2 : goal.invariant_of-self-2
 invariant_of-self-2 g c =
     let x = c.self.inside in
-    subst Kept (sym (after g (goal.at.invariant_of-self-2 g c).After-cancel))
-    (kept_withdraw (state_in x.phase x.book (g.D.AccountBook.accounts x.depository)) c.args.who c.args.number c.self.invariant)
+    let a = g.D.AccountBook.accounts in
+    kept_after (Withdraw c.args.who c.args.number) false (state_in x.phase x.book (a x.depository)) (state_in x.phase c.cancel.new.self (a c.release.new.self))
+    c.self.invariant (after g (goal.at.invariant_of-self-2 g c).After-cancel)
 
 pub returns-clause-after : goal.returns-clause-after
 returns-clause-after g c =

@@ -13,5 +13,5 @@ returns-clause-answer g c =
     let trades = sym c.if-not-is_trading.ensures in
     subst (λ v. answered (λ e. e.lots) c.ok_or.result ≡ withdraw_answer v.state c.args.who c.args.number) c.self.view_is (
     ap (answered (λ e. e.lots)) c.ok_or.ensures.value
-    ∙ withdraws s c.args.who c.args.number c.waiting.result trades (sym c.if-not-is_known.ensures) (sym c.if-not-is_own.ensures) (sym c.waiting.ensures) (trading_books s c.self.invariant trades)
+    ∙ withdraws s c.args.who c.args.number c.entry_of.result trades (sym c.if-not-is_known.ensures) (sym c.if-not-is_own.ensures) (sym c.entry_of.ensures) (trading_books s c.self.invariant trades)
     )

@@ -1,7 +1,7 @@
 use Rattle.std.proofs.Common.{rules}
 use Rattle.std.proofs.lemmas.List.Folds.{find-append}
 use Rattle.session.proofs.Places.{is_of}
-use Rattle.session.proofs.book.Book.waiting.Goals as goal
+use Rattle.session.proofs.book.Book.entry_of.Goals as goal
 
 pub returns : goal.returns
 returns c =
