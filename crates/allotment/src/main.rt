@@ -74,7 +74,7 @@ fn all_four(rt: &HostRuntime) -> Result<(), AllotmentFault> {
 /// One line that says what was wrong, and the exit status of a run that was refused.
 fn say(rt: &HostRuntime, fault: AllotmentFault) -> io::Result<ExitCode> {
     let RefusalCode { layer, number } = match fault {
-        AllotmentFault::Depository(fault) => fault.code(),
+        AllotmentFault::Depository(fault) => fault.into(),
         AllotmentFault::Sharing(fault) => fault.code(),
         AllotmentFault::List(fault) => fault.code(),
         AllotmentFault::Printing(fault) => return Err(fault),

@@ -5,7 +5,7 @@ ghost use Rattle.ordered_list.specs.Lists.{insert_answer, insert_memory, insert_
 ghost use Rattle.allotment.specs.Bids.{queue_order, saved_by, left_over, settle_answer, settle_after};
 
 use super::bid::Bid;
-use depository::{AccountBook, Amount, Depository, DepositoryFault};
+use depository::{AccountBook, Amount, Delivery, Depository, DepositoryFault};
 use ordered_list::{ListFault, OrderedList};
 use units::{Lots, Money, Participant, Price};
 
@@ -54,7 +54,12 @@ pub(crate) fn settle<D: Depository>(
     ensures answer { result ≡ settle_answer (D.AccountBook.accounts depository.old) seller bid share price }
     ensures after { D.AccountBook.accounts depository.new ≡ settle_after (D.AccountBook.accounts depository.old) seller bid share price }
 {
-    depository.deliver(seller, bid.who, share, price.times(share))?;
+    depository.deliver(Delivery {
+        seller,
+        buyer: bid.who,
+        lots: share,
+        money: price.times(share),
+    })?;
     depository.release(bid.who, Amount::Money(saved(bid, share, price)))?;
     depository.release(bid.who, Amount::Money(left_over(bid, share)))
 }

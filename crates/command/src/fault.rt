@@ -8,7 +8,7 @@ use market::SessionFault;
 use units::RefusalCode;
 
 /// Why a command of the tape is refused.
-#[derive(Clone, Copy)]
+#[derive(Clone, Copy, Debug, PartialEq, Eq)]
 pub enum TapeFault {
     /// 1: the byte is no command's.
     Unknown,
@@ -56,8 +56,8 @@ impl From<TapeFault> for RefusalCode {
             TapeFault::Unknown => 1,
             TapeFault::CutShort => 2,
             TapeFault::NoSuchRule => 3,
-            TapeFault::Session(lower) => return lower.code(),
-            TapeFault::Depository(lower) => return lower.code(),
+            TapeFault::Session(lower) => return lower.into(),
+            TapeFault::Depository(lower) => return lower.into(),
         };
         RefusalCode { layer: 1, number }
     }

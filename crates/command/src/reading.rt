@@ -7,7 +7,7 @@ use super::fault::TapeFault;
 use super::operand::Operand;
 use super::rule::Rule;
 use super::table::width_of;
-use market::OrderNumber;
+use market::{NewOrder, OrderNumber};
 use units::{Lots, Money, Participant, Price, Side};
 
 /// The command at the front of the tape, and the rest of the tape.
@@ -61,13 +61,13 @@ fn with_order(tape: &[u8]) -> (Command, &[u8])
     match tape {
         [0x10, p1, p0, c3, c2, c1, c0, l3, l2, l1, l0, rest @ ..]
         | [0x11, p1, p0, c3, c2, c1, c0, l3, l2, l1, l0, rest @ ..] => {
-            let command = Command::Submit {
+            let order = NewOrder {
                 participant: Participant::from_bytes([*p1, *p0]),
                 side: side_of(tape[0]),
                 limit: Price::from_bytes([*c3, *c2, *c1, *c0]),
                 lots: Lots::from_bytes([*l3, *l2, *l1, *l0]),
             };
-            (command, rest)
+            (Command::Submit(order), rest)
         }
         [0x12, p1, p0, o1, o0, rest @ ..] => {
             let participant = Participant::from_bytes([*p1, *p0]);

@@ -65,3 +65,12 @@ has_blocked x a = nat_le (size x) (blocked_of x a)
 abbrev pub part_of : Amount → Holdings → ℕ
 part_of (Lots n) h = h.lots.0
 part_of (Money n) h = h.money.0
+
+-- the holdings with so much more, and with so much less, of the amount's kind
+abbrev pub more : Amount → Holdings → Holdings
+more (Lots n) h = record { lots = record { 0 = h.lots.0 + n.0 }; money = h.money }
+more (Money n) h = record { lots = h.lots; money = record { 0 = h.money.0 + n.0 } }
+
+abbrev pub less : Amount → Holdings → Holdings
+less (Lots n) h = record { lots = record { 0 = h.lots.0 - n.0 }; money = h.money }
+less (Money n) h = record { lots = h.lots; money = record { 0 = h.money.0 - n.0 } }

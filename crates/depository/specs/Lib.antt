@@ -1,4 +1,5 @@
 pub mod Accounts
 pub mod Amounts
 pub mod Calls
+pub mod Changes
 pub mod Refusals

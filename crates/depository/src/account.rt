@@ -1,10 +1,11 @@
 ghost use Rattle.std.specs.Prelude.{◌≡◌};
-ghost use Rattle.depository.specs.Accounts.{is_empty};
+ghost use Rattle.depository.specs.Accounts.{account, is_empty};
 
+use super::held::Holdings;
 use units::{Lots, Money};
 
 /// What one participant holds. Blocked amounts cover waiting orders; free ones are at the participant's hand.
-#[derive(Clone, Copy)]
+#[derive(Clone, Copy, PartialEq, Eq)]
 pub struct Account {
     pub free_lots: Lots,
     pub blocked_lots: Lots,
@@ -24,9 +25,37 @@ impl Account {
     pub fn is_empty(self) -> bool
         ensures { result ≡ is_empty self }
     {
-        self.free_lots.0 == 0
-            && self.blocked_lots.0 == 0
-            && self.free_money.0 == 0
-            && self.blocked_money.0 == 0
+        self == Account::EMPTY
+    }
+
+    pub(crate) fn of(free: Holdings, blocked: Holdings) -> Account
+        ensures { result ≡ account free.lots.0 blocked.lots.0 free.money.0 blocked.money.0 }
+    {
+        Account {
+            free_lots: free.lots,
+            blocked_lots: blocked.lots,
+            free_money: free.money,
+            blocked_money: blocked.money,
+        }
+    }
+
+    pub(crate) fn free(self) -> Holdings
+        ensures lots { result.lots ≡ self.free_lots }
+        ensures money { result.money ≡ self.free_money }
+    {
+        Holdings {
+            lots: self.free_lots,
+            money: self.free_money,
+        }
+    }
+
+    pub(crate) fn blocked(self) -> Holdings
+        ensures lots { result.lots ≡ self.blocked_lots }
+        ensures money { result.money ≡ self.blocked_money }
+    {
+        Holdings {
+            lots: self.blocked_lots,
+            money: self.blocked_money,
+        }
     }
 }

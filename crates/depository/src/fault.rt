@@ -4,7 +4,7 @@ ghost use Rattle.depository.specs.Refusals.{code_of};
 use units::RefusalCode;
 
 /// Why a depository refuses.
-#[derive(Clone, Copy)]
+#[derive(Clone, Copy, Debug, PartialEq, Eq)]
 pub enum DepositoryFault {
     /// 31: the participant's number is not one of 1 to 64.
     NoParticipant,
@@ -16,11 +16,11 @@ pub enum DepositoryFault {
     PastTotal,
 }
 
-impl DepositoryFault {
-    pub fn code(self) -> RefusalCode
-        ensures { result ≡ code_of self }
-    {
-        let number = match self {
+impl From<DepositoryFault> for RefusalCode {
+    ghost from_gives = { λ fault code. code ≡ code_of fault };
+
+    fn from(fault: DepositoryFault) -> RefusalCode {
+        let number = match fault {
             DepositoryFault::NoParticipant => 31,
             DepositoryFault::FreeTooSmall => 32,
             DepositoryFault::BlockedTooSmall => 33,

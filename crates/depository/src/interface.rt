@@ -3,8 +3,9 @@ ghost use Rattle.depository.specs.Calls.{block_answer, block_after, release_answ
 
 use super::amount::Amount;
 use super::book::AccountBook;
+use super::delivery::Delivery;
 use super::fault::DepositoryFault;
-use units::{Lots, Money, Participant};
+use units::Participant;
 
 /// Keeps what participants hold, blocks and releases it, and delivers it. A session sees this narrow interface alone:
 /// these calls, and the balances of the `AccountBook` that a depository is.
@@ -24,13 +25,7 @@ pub trait Depository: AccountBook {
 
     /// Moves lots from the seller's blocked to the buyer's free, and money from the buyer's blocked to the seller's
     /// free. Both may be one participant. Refuses 31, 33.
-    fn deliver(
-        &mut self,
-        seller: Participant,
-        buyer: Participant,
-        lots: Lots,
-        money: Money,
-    ) -> Result<(), DepositoryFault>
-        ensures answer { result ≡ deliver_answer (Self.AccountBook.accounts self.old) seller buyer lots money }
-        ensures after { Self.AccountBook.accounts self.new ≡ deliver_after (Self.AccountBook.accounts self.old) seller buyer lots money };
+    fn deliver(&mut self, delivery: Delivery) -> Result<(), DepositoryFault>
+        ensures answer { result ≡ deliver_answer (Self.AccountBook.accounts self.old) delivery.seller delivery.buyer delivery.lots delivery.money }
+        ensures after { Self.AccountBook.accounts self.new ≡ deliver_after (Self.AccountBook.accounts self.old) delivery.seller delivery.buyer delivery.lots delivery.money };
 }

@@ -1,14 +1,16 @@
-use depository::{AccountBook, Amount, BackOffice, Depository, DepositoryFault, held_in_all};
+use depository::{
+    AccountBook, Amount, BackOffice, Delivery, Depository, DepositoryFault, held_in_all,
+};
 use sparse_depository::SparseDepository;
 use std::process::Abort;
 use table_depository::TableDepository;
-use units::{Lots, Money, Participant};
+use units::{Lots, Money, Participant, RefusalCode};
 
 /// The refusal's number, or 0 where the call was accepted.
 fn number(answer: Result<(), DepositoryFault>) -> u8 {
     match answer {
         Ok(()) => 0,
-        Err(fault) => fault.code().number,
+        Err(fault) => RefusalCode::from(fault).number,
     }
 }
 
@@ -18,6 +20,15 @@ fn lots(n: u64) -> Amount {
 
 fn money(n: u128) -> Amount {
     Amount::Money(Money(n))
+}
+
+fn delivery(seller: Participant, buyer: Participant, lots: u64, money: u128) -> Delivery {
+    Delivery {
+        seller,
+        buyer,
+        lots: Lots(lots),
+        money: Money(money),
+    }
 }
 
 /// Free lots, blocked lots, free money, blocked money; all 31 where the participant is refused.
@@ -40,8 +51,8 @@ fn asked_of<D: BackOffice>(d: &mut D, who: u16) -> [u8; 6] {
     [
         number(d.block(who, lots(1))),
         number(d.release(who, money(1))),
-        number(d.deliver(who, one, Lots(1), Money(1))),
-        number(d.deliver(one, who, Lots(1), Money(1))),
+        number(d.deliver(delivery(who, one, 1, 1))),
+        number(d.deliver(delivery(one, who, 1, 1))),
         number(d.pay_in(who, lots(1_000_000_000_001))),
         number(d.pay_out(who, money(1))),
     ]
@@ -107,10 +118,10 @@ fn undelivered<D: BackOffice>(d: &mut D) -> [u8; 8] {
         number(d.pay_in(buyer, money(300))),
         number(d.block(seller, lots(4))),
         number(d.block(buyer, money(300))),
-        number(d.deliver(seller, buyer, Lots(5), Money(300))),
-        number(d.deliver(seller, buyer, Lots(4), Money(301))),
-        number(d.deliver(buyer, seller, Lots(1), Money(1))),
-        number(d.deliver(seller, buyer, Lots(0), Money(0))),
+        number(d.deliver(delivery(seller, buyer, 5, 300))),
+        number(d.deliver(delivery(seller, buyer, 4, 301))),
+        number(d.deliver(delivery(buyer, seller, 1, 1))),
+        number(d.deliver(delivery(seller, buyer, 0, 0))),
     ]
 }
 
@@ -121,7 +132,7 @@ fn deliveries<D: BackOffice>(rt: &impl Abort, d: &mut D) {
         [[0, 4, 0, 0], [0, 0, 0, 300]]
     );
     assert_eq!(rt;
-        number(d.deliver(Participant(1), Participant(2), Lots(4), Money(300))),
+        number(d.deliver(delivery(Participant(1), Participant(2), 4, 300))),
         0
     );
     assert_eq!(rt;
@@ -138,7 +149,7 @@ fn to_itself<D: BackOffice>(d: &mut D) -> [u8; 5] {
         number(d.block(who, lots(10))),
         number(d.pay_in(who, money(1_050))),
         number(d.block(who, money(1_000))),
-        number(d.deliver(who, who, Lots(4), Money(300))),
+        number(d.deliver(delivery(who, who, 4, 300))),
     ]
 }
 

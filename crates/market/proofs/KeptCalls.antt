@@ -120,7 +120,7 @@ kept_close s k = if_ok_lem (close_answer s) (in_phase Closed (all_annulled s)) s
 -- ANY CALL
 
 pub kept_call : (call : Call) (d : Desk) → Kept d.session → Kept (session_after call d)
-kept_call (Submit who side limit lots) d k = kept_submit d.session who side limit lots k
+kept_call (Submit o) d k = kept_submit d.session o.participant o.side o.limit o.lots k
 kept_call (Withdraw who n) d k = kept_withdraw d.session who n k
 kept_call Strike d k = cond_both d.slip d.session (strike_after d.session) Kept (λ held. k) (λ none. kept_strike d.session k)
 kept_call Annul d k = cond_both d.slip (annul_after d.session) d.session Kept (λ held. kept_annul d.session k) (λ none. k)
@@ -140,9 +140,10 @@ struck_lasts P s l (Some c) = l.in_any_phase (Struck c) s l.same
 struck_lasts P s l None = l.annuls_all
 
 pub call_lasts : (P : State → Type 0) (call : Call) (d : Desk) → Lasts P d.session → P (session_after call d)
-call_lasts P (Submit who side limit lots) d l =
+call_lasts P (Submit o) d l =
     let s = d.session in
-    if_ok_lem (submit_answer s who side limit lots) (entered s (next_order s who side limit lots)) s P (l.enters who side limit lots) l.same
+    if_ok_lem (submit_answer s o.participant o.side o.limit o.lots) (entered s (next_order s o.participant o.side o.limit o.lots)) s P
+    (l.enters o.participant o.side o.limit o.lots) l.same
 call_lasts P (Withdraw who n) d l = let s = d.session in if_ok_lem (withdraw_answer s who n) (annulled n.0 s) s P (λ lots e. l.annuls n.0) l.same
 call_lasts P Strike d l =
     let s = d.session in

@@ -55,8 +55,8 @@ close_matched Continuous s slip lots e m = m
 close_matched Closed s slip lots e m = m ∙ sym (ap is_struck e)
 
 pub matched_call : (call : Call) (d : Desk) → Matched d → slip_after call d ≡ is_struck (session_after call d).phase
-matched_call (Submit who side limit lots) d m =
-    m ∙ sym (ap is_struck (either-phase (submit_answer d.session who side limit lots) (entered d.session (next_order d.session who side limit lots)) d.session refl))
+matched_call (Submit o) d m =
+    m ∙ sym (ap is_struck (either-phase (submit_answer d.session o.participant o.side o.limit o.lots) (entered d.session (next_order d.session o.participant o.side o.limit o.lots)) d.session refl))
 matched_call (Withdraw who n) d m =
     m ∙ sym (ap is_struck (either-phase (withdraw_answer d.session who n) (annulled n.0 d.session) d.session refl))
 matched_call Strike d m = by d.slip m

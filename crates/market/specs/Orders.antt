@@ -1,5 +1,6 @@
 -- Orders that wait, and what can be said of them.
-use Rattle.std.specs.Prelude.{ℕ, ◌+◌, ◌-◌, Bool, true, false, cond, ◌&&◌, ◌||◌, List, [], ◌∷◌, nat_eq, nat_le}
+use Rattle.std.specs.Prelude.{ℕ, ◌+◌, ◌-◌, Bool, cond, List, [], ◌∷◌, nat_eq, nat_le}
+use Rattle.std.specs.List.{list_any, list_all}
 use Rattle.ordered_list.specs.Keys.{upward, then_by}
 use Rattle.units.specs.Worth.{worth}
 use Rattle.units.specs.declared.quantity.Price.{Price}
@@ -21,12 +22,10 @@ total_if test figure xs = total (λ x. cond (test x) (figure x) 0) xs
 
 -- whether some, whether every one passes a test
 abbrev pub some : {X : Type 0} → (X → Bool) → List X → Bool
-some test [] = false
-some test (x ∷ xs) = test x || some test xs
+some = list_any
 
 abbrev pub every : {X : Type 0} → (X → Bool) → List X → Bool
-every test [] = true
-every test (x ∷ xs) = test x && every test xs
+every = list_all
 
 -- of a waiting order: its number, the participant it is of, its limit, the lots that wait
 abbrev pub number_of : Resting → ℕ

@@ -27,7 +27,7 @@ Reply = Result Outcome SessionFault
 
 -- the answer to a call: annul needs the slip, and while a slip is held no other is struck
 abbrev pub answer_to : Call → Desk → Reply
-answer_to (Submit who side limit lots) d = answered (λ n. Accepted n lots) (submit_answer d.session who side limit lots)
+answer_to (Submit o) d = answered (λ n. Accepted n o.lots) (submit_answer d.session o.participant o.side o.limit o.lots)
 answer_to (Withdraw who n) d = answered (λ lots. Withdrawn n lots) (withdraw_answer d.session who n)
 answer_to Strike d = cond d.slip (Err WrongPhase) (answered strike_outcome (strike_answer d.session))
 answer_to Annul d = cond d.slip (answered Annulled (annul_answer d.session)) (Err WrongPhase)
@@ -35,7 +35,7 @@ answer_to Close d = answered Annulled (close_answer d.session)
 
 -- the session after the call
 abbrev pub session_after : Call → Desk → State
-session_after (Submit who side limit lots) d = submit_after d.session who side limit lots
+session_after (Submit o) d = submit_after d.session o.participant o.side o.limit o.lots
 session_after (Withdraw who n) d = withdraw_after d.session who n
 session_after Strike d = cond d.slip d.session (strike_after d.session)
 session_after Annul d = cond d.slip (annul_after d.session) d.session
@@ -43,7 +43,7 @@ session_after Close d = close_after d.session
 
 -- whether the slip is held after the call: an accepted strike that is not abandoned gives one, an accepted annul takes it
 abbrev pub slip_after : Call → Desk → Bool
-slip_after (Submit who side limit lots) d = d.slip
+slip_after (Submit o) d = d.slip
 slip_after (Withdraw who n) d = d.slip
 slip_after Strike d = cond d.slip true (if_ok (strike_answer d.session) (is_some (cut_off_found d.session.sells d.session.buys)) false)
 slip_after Annul d = cond d.slip (if_ok (annul_answer d.session) false true) false

@@ -1,16 +1,11 @@
 use super::fault::SessionFault;
-use super::order::OrderNumber;
-use units::{Lots, Participant, Price, Side};
+use super::order::{NewOrder, OrderNumber};
+use units::{Lots, Participant, Price};
 
 /// A call of a session, as data.
-#[derive(Clone, Copy)]
+#[derive(Clone, Copy, Debug, PartialEq, Eq)]
 pub enum Call {
-    Submit {
-        participant: Participant,
-        side: Side,
-        limit: Price,
-        lots: Lots,
-    },
+    Submit(NewOrder),
     Withdraw {
         participant: Participant,
         order: OrderNumber,
@@ -21,7 +16,7 @@ pub enum Call {
 }
 
 /// What an accepted call answers.
-#[derive(Clone, Copy)]
+#[derive(Clone, Copy, Debug, PartialEq, Eq)]
 pub enum Outcome {
     /// An order was accepted under this number, for these lots.
     Accepted { order: OrderNumber, lots: Lots },

@@ -1,9 +1,11 @@
-use super::order::OrderNumber;
+ghost use Rattle.std.specs.Prelude.{◌≡◌};
+
+use super::order::{OrderNumber, Resting};
 use std::fmt;
 use units::{Lots, Price};
 
 /// A line of the deal list.
-#[derive(Clone, Copy)]
+#[derive(Clone, Copy, Debug, PartialEq, Eq, Default)]
 pub struct Deal {
     pub sell: OrderNumber,
     pub buy: OrderNumber,
@@ -12,10 +14,24 @@ pub struct Deal {
 }
 
 /// A line of the cancellation list: what was annulled of an order.
-#[derive(Clone, Copy)]
+#[derive(Clone, Copy, Debug, PartialEq, Eq, Default)]
 pub struct Cancellation {
     pub order: OrderNumber,
     pub lots: Lots,
+}
+
+// written out, so that what it gives stands in `from_gives`
+impl From<Resting> for Cancellation {
+    ghost use Rattle.market.specs.Calls.{cancellation_of};
+
+    ghost from_gives = { λ entry line. line ≡ cancellation_of entry };
+
+    fn from(entry: Resting) -> Cancellation {
+        Cancellation {
+            order: entry.order.number,
+            lots: entry.lots,
+        }
+    }
 }
 
 /// The line of a deal: its mark, and its fields in decimal.

@@ -6,7 +6,7 @@ use depository::DepositoryFault;
 use units::RefusalCode;
 
 /// Why a session refuses.
-#[derive(Clone, Copy)]
+#[derive(Clone, Copy, Debug, PartialEq, Eq)]
 pub enum SessionFault {
     /// 11: the participant's number is not one of 1 to 64.
     NoParticipant,
@@ -32,6 +32,7 @@ pub enum SessionFault {
     Depository(DepositoryFault),
 }
 
+// The two conversions are written out: what they give stands in `from_gives`, and a derived From has no such clause.
 impl From<DepositoryFault> for SessionFault {
     ghost from_gives = { λ fault r. r ≡ OfDepository fault };
 
@@ -40,12 +41,12 @@ impl From<DepositoryFault> for SessionFault {
     }
 }
 
-impl SessionFault {
-    /// What the refusal is known by outside.
-    pub fn code(self) -> RefusalCode
-        ensures { result ≡ code_of self }
-    {
-        let number = match self {
+/// What the refusal is known by outside.
+impl From<SessionFault> for RefusalCode {
+    ghost from_gives = { λ fault code. code ≡ code_of fault };
+
+    fn from(fault: SessionFault) -> RefusalCode {
+        let number = match fault {
             SessionFault::NoParticipant => 11,
             SessionFault::PriceOutOfRange => 12,
             SessionFault::LotsOutOfRange => 13,
@@ -56,7 +57,7 @@ impl SessionFault {
             SessionFault::WrongPhase => 21,
             SessionFault::SomethingBlocked => 22,
             SessionFault::SliceTooShort => 23,
-            SessionFault::Depository(fault) => return fault.code(),
+            SessionFault::Depository(fault) => return fault.into(),
         };
         RefusalCode { layer: 2, number }
     }

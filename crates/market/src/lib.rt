@@ -14,7 +14,7 @@ mod worked;
 pub use call::{Answer, Call, Outcome};
 pub use deal::{Cancellation, Deal};
 pub use fault::SessionFault;
-pub use order::{Order, OrderNumber, Resting};
+pub use order::{NewOrder, Order, OrderNumber, Resting};
 pub use phase::Phase;
 pub use summary::SummaryLine;
 pub use worked::worked_cases;

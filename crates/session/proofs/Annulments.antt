@@ -1,17 +1,14 @@
 -- To take an order's entry out and note it is to annul what waits of the order.
-use Rattle.std.proofs.Common.{◌≡◌, ℕ, ◌+◌, ◌<◌, ◌≤◌, Bool, true, false, cond, not, eqb, ◌≢◌, List, [], ◌∷◌, ◌++◌, map, length, get_or, take, Some, None, sym, refl, ap, ◌∙◌, subst, arith}
+use Rattle.std.proofs.Common.{◌≡◌, ℕ, ◌+◌, Bool, true, false, cond, not, eqb, ◌≢◌, List, [], ◌∷◌, ◌++◌, map, Some, None, sym, refl, ap, ◌∙◌, subst, arith}
 use Rattle.std.specs.List.{AllByRecursion}
-use Rattle.std.proofs.lemmas.List.{append-nil, length-take-le, get_or-take, take_more}
+use Rattle.std.proofs.lemmas.List.{append-nil}
 use Rattle.std.proofs.lemmas.Bool.{eqb-true, eqb-false, ne_eqb}
 use Rattle.depository.specs.Calls.{release_after}
-use Rattle.market.specs.declared.order.Order.{Order}
 use Rattle.market.specs.declared.order.Resting.{Resting}
 use Rattle.market.specs.Orders.{number_of, lots_of, waiting_lots, cover_of}
 use Rattle.market.specs.State.{State, waiting}
-use Rattle.market.specs.Calls.{entries_of, without, cancellation_of, released, annulled, annulled_each}
-use Rattle.market.specs.Law.{Books, Distinct}
-use Rattle.market.proofs.Annulling.{each_keeps, each_push}
-use Rattle.market.proofs.KeptBooks.{books_each}
+use Rattle.market.specs.Calls.{entries_of, without, cancellation_of, released, annulled}
+use Rattle.market.specs.Law.{Distinct}
 use Rattle.market.proofs.Totals.{all_first, all_second}
 use Rattle.session.specs.Lists.{first_with, without_first}
 use Rattle.session.proofs.Places.{none_some}
@@ -95,22 +92,3 @@ first_number n (x ∷ q) e f = by (eqb (number_of x) n) refl (λ h. first_number
     by : (t : Bool) → eqb (number_of x) n ≡ t → (first_with n q ≡ Some e → number_of e ≡ n) → cond t (Some x) (first_with n q) ≡ Some e → number_of e ≡ n
     by true h r f = let same : x ≡ e = cc in sym (ap number_of same) ∙ eqb-true (number_of x) n h
     by false h r f = r f
-
--- the order at a place of a list that is the front of its memory
-pub front_at : {X : Type 0} (memory xs : List X) (count i : ℕ) (d : X) → take count memory ≡ xs → count ≤ length memory → i < length xs → get_or memory i d ≡ get_or xs i d
-front_at memory xs count i d e fits low =
-    let long : length (take count memory) ≡ count = length-take-le count memory fits in
-    let same : length (take count memory) ≡ length xs = ap length e in
-    sym (get_or-take count memory i d (omega arith)) ∙ ap (λ ys. get_or ys i d) e
-
--- some orders annulled: the books are right, and the records are as they were
-pub partly : (os : List Order) (s t : State) → Books s → t ≡ annulled_each os s → Books t × (t.orders ≡ s.orders)
-partly os s t b e = (subst Books (sym e) (books_each os s b), ap (λ (x : State). x.orders) e ∙ (each_keeps os s).0)
-
--- and the next one
-pub next_annulled : (s t : State) (i : ℕ) (d : Order) (u : State) → i < length s.orders → t ≡ annulled_each (take i s.orders) s →
-    u ≡ annulled (get_or s.orders i d).number.0 t → u ≡ annulled_each (take (i + 1) s.orders) s
-next_annulled s t i d u low e f =
-    f ∙ ap (annulled (get_or s.orders i d).number.0) e
-    ∙ sym (each_push (take i s.orders) (get_or s.orders i d) s)
-    ∙ ap (λ os. annulled_each os s) (sym (take_more s.orders i d low))

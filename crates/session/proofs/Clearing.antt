@@ -1,12 +1,16 @@
 -- To empty the queues first, and then to release and note what waited, order after order, is to annul order after order.
-use Rattle.std.proofs.Common.{◌≡◌, ℕ, zero, suc, ◌+◌, ◌<◌, ◌≤◌, Bool, true, false, cond, not, eqb, ◌≢◌, List, [], ◌∷◌, ◌++◌, map, length, get_or, take, drop, Some, None, Ok, Option, sym, refl, ap, ◌∙◌, subst, arith}
+use Rattle.std.proofs.Common.{◌≡◌, ℕ, zero, suc, ◌+◌, ◌-◌, ◌<◌, ◌≤◌, Bool, true, false, cond, not, eqb, ◌≢◌, List, [], ◌∷◌, ◌++◌, map, length, get_or, take, drop, Some, None, Ok, Option, sym, refl, ap, ◌∙◌, subst, arith}
 use Rattle.std.specs.List.{AllByRecursion}
-use Rattle.std.proofs.lemmas.List.{append-nil, take_more, take_all, length-take-le}
+use Rattle.std.proofs.lemmas.List.{append-nil, length_push, take_more, take_all, length-take, length-drop, get_or-take}
+use Rattle.std.proofs.lemmas.Grind.{get_or_after_one}
 use Rattle.std.proofs.lemmas.Bool.{eqb-true, ne_eqb, cond-false}
 use Rattle.depository.specs.Calls.{release_answer, release_after}
 use Rattle.depository.specs.declared.account.Account.{Account}
 use Rattle.market.specs.declared.order.Order.{Order}
+use Rattle.market.specs.declared.phase.Phase.{Phase}
+use Rattle.units.specs.declared.side.Side.TheVariants.{Sell}
 use Rattle.market.specs.declared.order.Resting.{Resting}
+use Rattle.market.specs.declared.deal.Cancellation.{Cancellation}
 use Rattle.market.specs.Orders.{number_of, cover_of}
 use Rattle.market.specs.State.{State, waiting}
 use Rattle.market.specs.Calls.{entries_of, without, cancellation_of, released, annulled, annulled_each, all_annulled}
@@ -14,14 +18,12 @@ use Rattle.market.specs.Law.{Books, NumberedFrom}
 use Rattle.market.proofs.Annulling.{waiting-annulled, each_push, all_gone}
 use Rattle.market.proofs.KeptBooks.{books_each, release_passes_one}
 use Rattle.session.specs.declared.book.Book.{Book}
-use Rattle.session.specs.declared.session.Session.{Session}
-use Rattle.session.specs.Books.{orders_in, deals_in, cancellations_in}
-use Rattle.session.specs.Lists.{first_with, no_order}
+use Rattle.session.specs.Lists.{first_with}
 use Rattle.session.specs.Slots.{by_number}
-use Rattle.session.specs.States.{state_of}
+use Rattle.session.specs.States.{state_in}
 use Rattle.session.proofs.Annulments.{none_of, first_is, first_none}
 use Rattle.session.proofs.Same.{same_state}
-use Rattle.session.proofs.Slotting.{filled}
+use Rattle.session.proofs.Slotting.{filled, filled_by, filled-take, filled_more, by_number_long, slot_is}
 
 -- THE NUMBERS OF THE ORDERS
 
@@ -64,6 +66,9 @@ entries_so_far : (i : ℕ) (s : State) → Books s → entries_of (i + 1) (waiti
 entries_so_far i s b =
     let n : 1 + i ≡ i + 1 = omega arith in
     entries_each (i + 1) (take i s.orders) s (subst (λ k. AllByRecursion (λ (o : Order). o.number.0 ≢ k) (take i s.orders)) n (numbered_before 1 s.orders i b.numbered))
+
+no_order : Order
+no_order = record { number = record { 0 = 0 }; participant = record { 0 = 0 }; side = Sell; limit = record { 0 = 0 }; accepted = record { 0 = 0 } }
 
 -- the next order is that with the next number
 so_far_more : (i : ℕ) (s : State) → Books s → i < length s.orders → so_far (i + 1) s ≡ annulled (i + 1) (so_far i s)
@@ -131,25 +136,57 @@ cleared_all i s t b all' so =
 
 -- A TURN OF THE LOOP over the orders
 
-pub orders_long : (b : Book) → length (orders_in b) ≡ b.order_count
-orders_long b = length-take-le b.order_count b.orders (omega arith)
+-- a book that has lost its queues
+pub queues_emptied : (p : Phase) (accounts : List Account) (b next : Book) → next.orders ≡ b.orders → next.sells ≡ [] → next.buys ≡ [] → next.deals ≡ b.deals →
+    next.cancellations ≡ b.cancellations → state_in p next accounts ≡ emptied (state_in p b accounts)
+queues_emptied p accounts b next orders sells buys deals cancellations =
+    same_state (state_in p next accounts) (emptied (state_in p b accounts))
+    refl (ap (λ v. v.items) orders) sells buys (ap (λ v. v.items) deals) (ap (λ v. v.items) cancellations) refl
 
-none_taken : {X : Type 0} (count : ℕ) (xs : List X) → count ≡ 0 → take count xs ≡ []
-none_taken count xs e = ap (λ k. take k xs) e
+-- the slots of the orders that there are
+abbrev pub order_slots : State → List (Option Resting)
+order_slots s = take (length s.orders + 1 - 1) (drop 1 (by_number s.sells s.buys))
 
--- a session whose book has lost its queues
-pub queues_emptied : {D : Type 0} (accounts : D → List Account) (x : Session D) (b : Book) →
-    orders_in b ≡ orders_in x.book → b.sell_count ≡ 0 → b.buy_count ≡ 0 → deals_in b ≡ deals_in x.book → cancellations_in b ≡ cancellations_in x.book →
-    state_of accounts (record { depository = x.depository; phase = x.phase; book = b }) ≡ emptied (state_of accounts x)
-queues_emptied accounts x b orders sells buys deals cancellations =
-    same_state (state_of accounts (record { depository = x.depository; phase = x.phase; book = b })) (emptied (state_of accounts x))
-    refl orders (none_taken b.sell_count b.sells sells) (none_taken b.buy_count b.buys buys) deals cancellations refl
+pub order_slots_are : (s : State) (p : Phase) (b : Book) (accounts : List Account) (n : ℕ) (slots : List (Option Resting)) →
+    state_in p b accounts ≡ s → n ≡ length b.orders.items → slots ≡ by_number b.sells b.buys → take (n + 1 - 1) (drop 1 slots) ≡ order_slots s
+order_slots_are s p b accounts n slots same count laid =
+    ap (λ k. take (k + 1 - 1) (drop 1 slots)) count
+    ∙ ap (λ xs. take (length b.orders.items + 1 - 1) (drop 1 xs)) laid
+    ∙ ap order_slots same
 
--- the queues are empty, and there is room to note what is left. Of a state that had right books before its queues were laid
--- out and emptied, the orders so far are annulled
-abbrev pub Cleared : {D : Type 0} → (D → List Account) → Session D → Session D → List (Option Resting) → ℕ → Type 0
-Cleared accounts start x slots i =
-    (x.book.sell_count ≡ 0)
-    × (x.book.buy_count ≡ 0)
-    × (x.book.cancellation_count + filled (drop (i + 1) slots) ≤ x.book.order_count)
-    × ((s : State) → Books s → state_of accounts start ≡ emptied s → slots ≡ by_number s.sells s.buys → state_of accounts x ≡ emptied (so_far i s))
+pub order_slots_long : (s : State) → Books s → length (order_slots s) ≡ length s.orders
+order_slots_long s b =
+    let all' = by_number s.sells s.buys in
+    let few : length s.orders ≤ 512 = b.few in
+    omega (arith, length-take (length s.orders + 1 - 1) (drop 1 all'), length-drop 1 all', by_number_long s.sells s.buys)
+
+-- the slot at place i is that of order i + 1
+pub slot_found : (s : State) (slots : List (Option Resting)) (i : ℕ) (o : Option Resting) → Books s → slots ≡ order_slots s → i < length slots → get_or slots i None ≡ o →
+    (first_with (i + 1) (waiting s) ≡ o) × (i < length s.orders)
+slot_found s slots i o b are low e =
+    let all' = by_number s.sells s.buys in
+    let n : ℕ = length s.orders + 1 - 1 in
+    let few : length s.orders ≤ 512 = b.few in
+    let next : 1 + i ≡ i + 1 = omega arith in
+    let within : i < length s.orders = omega (arith, ap length are, order_slots_long s b) in
+    let at : get_or (order_slots s) i None ≡ get_or all' (i + 1) None =
+    get_or-take n (drop 1 all') i None (omega arith) ∙ get_or_after_one all' i None ∙ ap (λ k. get_or all' k None) next in
+    (sym (slot_is s.sells s.buys (i + 1) None b.distinct (omega arith)) ∙ sym at ∙ ap (λ xs. get_or xs i None) (sym are) ∙ e, within)
+
+-- no more of them are filled than wait
+pub filled_orders : (b : Book) (n : ℕ) (slots : List (Option Resting)) → slots ≡ by_number b.sells b.buys → filled (take n (drop 1 slots)) ≤ length b.sells + length b.buys
+filled_orders b n slots laid = omega (arith, filled-take n (drop 1 slots), ap (λ xs. filled (drop 1 xs)) laid, filled_by b.sells b.buys 1)
+
+-- a cancellation takes up the room of the slot that was filled
+pub room_next : (b next : Book) (line : Cancellation) (slots : List (Option Resting)) (i : ℕ) (e : Resting) → i < length slots → get_or slots i None ≡ Some e →
+    next.orders ≡ b.orders → next.cancellations.items ≡ b.cancellations.items ++ (line ∷ []) → length b.cancellations.items + filled (drop i slots) ≤ length b.orders.items →
+    length next.cancellations.items + filled (drop (i + 1) slots) ≤ length next.orders.items
+room_next b next line slots i e low is orders noted room =
+    omega (arith, filled_more slots i (Some e) low is, ap length noted, length_push b.cancellations.items line, ap (λ v. length v.items) orders)
+
+-- the queues are empty, there is room to note what is left in the slots, and the orders so far are annulled
+pub record Cleared (s : State) (p : Phase) (b : Book) (accounts : List Account) (slots : List (Option Resting)) (i : ℕ) : Type 0 where
+  pub sells : b.sells ≡ []
+  pub buys : b.buys ≡ []
+  pub room : length b.cancellations.items + filled (drop i slots) ≤ length b.orders.items
+  pub annulled_so_far : state_in p b accounts ≡ emptied (so_far i s)

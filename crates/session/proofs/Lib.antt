@@ -1,13 +1,12 @@
 pub mod Admissions
 pub mod Annulments
-pub mod Bounds
 pub mod Clearing
+pub mod Keeping
 pub mod Lines
 pub mod Openings
 pub mod Places
 pub mod RunSteps
 pub mod Same
-pub mod Scans
 pub mod Slotting
 pub mod Strikes
 pub mod Withdrawals

@@ -12,12 +12,15 @@ use Rattle.market.specs.State.{State, queue_of}
 use Rattle.market.specs.Law.{Books, KeptIn, Kept}
 use Rattle.market.proofs.Totals.{all_first, all_second}
 use Rattle.market.proofs.KeptBooks.{priced-waiting}
+use Rattle.depository.specs.declared.account.Account.{Account}
+use Rattle.session.specs.declared.book.Book.{Book}
+use Rattle.session.specs.States.{state_in, queue_in}
 
 -- the memory bounds how long they are and how much waits in them
-abbrev pub Bounded : List Resting → Type 0
+abbrev Bounded : List Resting → Type 0
 Bounded q = (length q ≤ 512) × (lots_in q ≤ 512 * 1000000)
 
-pub books_queues : (s : State) → Books s → Bounded s.sells → Bounded s.buys → Queues s.sells s.buys
+books_queues : (s : State) → Books s → Bounded s.sells → Bounded s.buys → Queues s.sells s.buys
 books_queues s b sells buys =
     let priced = priced-waiting s b in
     record {
@@ -34,12 +37,17 @@ queues_in (Struck c) s k sells buys = books_queues s k.0 sells buys
 queues_in Continuous s k sells buys = books_queues s k sells buys
 queues_in Closed s k sells buys = record { of_sells = nobody_waits Sell s.sells k.0; of_buys = nobody_waits Buy s.buys k.1 }
 
-pub kept_queues : (s : State) → Kept s → Bounded s.sells → Bounded s.buys → Queues s.sells s.buys
-kept_queues s k sells buys = queues_in s.phase s k sells buys
+pub kept_queues : (p : Phase) (b : Book) (accounts : List Account) → Kept (state_in p b accounts) → Queues b.sells b.buys
+kept_queues p b accounts k = queues_in p (state_in p b accounts) k (omega arith, omega arith) (omega arith, omega arith)
 
-pub queue_of_lem : (side : Side) (s : State) → Queues s.sells s.buys → Queue side (queue_of side s)
-queue_of_lem Sell s q = q.of_sells
-queue_of_lem Buy s q = q.of_buys
+-- the queue of a side
+pub kept_queue : (side : Side) (p : Phase) (b : Book) (accounts : List Account) → Kept (state_in p b accounts) → Queue side (queue_in side b)
+kept_queue Sell p b accounts k = (kept_queues p b accounts k).of_sells
+kept_queue Buy p b accounts k = (kept_queues p b accounts k).of_buys
+
+pub queue_of_side : (side : Side) (p : Phase) (b : Book) (accounts : List Account) → queue_in side b ≡ queue_of side (state_in p b accounts)
+queue_of_side Sell p b accounts = refl
+queue_of_side Buy p b accounts = refl
 
 -- what is said of slices that hold the queues is said of the queues
 pub at_queues : (P : List Resting → List Resting → Type 0) (x y sells buys : List Resting) → x ≡ sells → y ≡ buys → Queues sells buys → (Queues x y → P x y) → P sells buys

@@ -1,25 +1,20 @@
 -- What stands in the slots, and how many of them are filled.
-use Rattle.std.proofs.Common.{◌≡◌, ℕ, zero, suc, ◌+◌, ◌<◌, ◌≤◌, Bool, true, false, cond, eqb, ◌≢◌, List, [], ◌∷◌, ◌++◌, length, get_or, drop, set, replicate, Some, None, Option, sym, refl, ap, ◌∙◌, subst, arith}
+use Rattle.std.proofs.Common.{◌≡◌, ℕ, zero, suc, ◌+◌, ◌<◌, ◌≤◌, Bool, true, false, cond, eqb, ◌≢◌, List, [], ◌∷◌, ◌++◌, length, get_or, take, drop, set, replicate, Some, None, Option, sym, refl, ap, ◌∙◌, subst, arith}
 use Rattle.std.specs.List.{AllByRecursion}
-use Rattle.std.proofs.lemmas.List.{at_drop_more, set_past, length-set, length-replicate, get_or-set_same, get_or-set_other, get_or-replicate}
+use Rattle.std.specs.Option.{option_or}
+use Rattle.std.proofs.lemmas.List.{at_drop_more, length-set, length-replicate, get_or-set_same, get_or-set_other, get_or-replicate}
 use Rattle.std.proofs.lemmas.Bool.{eqb-true, eqb-false, ne_eqb}
 use Rattle.market.specs.declared.order.Resting.{Resting}
 use Rattle.market.specs.Orders.{total, number_of}
 use Rattle.market.specs.Law.{Distinct}
 use Rattle.session.specs.Lists.{first_with}
 use Rattle.session.specs.Slots.{slotted, by_number}
-use Rattle.session.proofs.Places.{or_else}
 
 -- ONE ENTRY MORE
 
 pub slotted_more : (q : List Resting) (slots next : List (Option Resting)) (i : ℕ) (d : Resting) → i < length q →
     next ≡ set slots (number_of (get_or q i d)) (Some (get_or q i d)) → slotted (drop (i + 1) q) next ≡ slotted (drop i q) slots
 slotted_more q slots next i d low e = ap (slotted (drop (i + 1) q)) e ∙ sym (at_drop_more (λ rest. slotted rest slots) q i d low)
-
--- one without a slot
-pub slotted_past : (q : List Resting) (slots next : List (Option Resting)) (i : ℕ) (d : Resting) → i < length q →
-    next ≡ slots → length slots ≤ number_of (get_or q i d) → slotted (drop (i + 1) q) next ≡ slotted (drop i q) slots
-slotted_past q slots next i d low e far = slotted_more q slots next i d low (e ∙ sym (set_past slots (number_of (get_or q i d)) (Some (get_or q i d)) far))
 
 -- HOW MANY ARE FILLED
 
@@ -49,6 +44,11 @@ filled-drop zero slots = omega arith
 filled-drop (suc n) [] = omega arith
 filled-drop (suc n) (o ∷ slots) = omega (arith, filled-drop n slots)
 
+pub filled-take : {X : Type 0} (n : ℕ) (slots : List (Option X)) → filled (take n slots) ≤ filled slots
+filled-take zero slots = omega arith
+filled-take (suc n) [] = omega arith
+filled-take (suc n) (o ∷ slots) = omega (arith, filled-take n slots)
+
 -- no more are filled than wait
 pub filled_by : (sells buys : List Resting) (k : ℕ) → filled (drop k (by_number sells buys)) ≤ length sells + length buys
 filled_by sells buys k = omega (
@@ -77,26 +77,26 @@ none_first n [] a = refl
 none_first n (e ∷ q) a = let f : eqb (number_of e) n ≡ false = ne_eqb (number_of e) n a.0 in simp f (none_first n q a.1)
 
 slot_at : (n : ℕ) (q : List Resting) (slots : List (Option Resting)) (d : Option Resting) → Distinct q → n < length slots →
-    get_or (slotted q slots) n d ≡ or_else (first_with n q) (get_or slots n d)
+    get_or (slotted q slots) n d ≡ option_or (first_with n q) (get_or slots n d)
 slot_at n [] slots d a low = refl
 slot_at n (e ∷ q) slots d a low = by (eqb (number_of e) n) refl (slot_at n q (set slots (number_of e) (Some e)) d a.1 (omega (arith, length-set slots (number_of e) (Some e))))
   where
     by : (t : Bool) → eqb (number_of e) n ≡ t →
-        get_or (slotted q (set slots (number_of e) (Some e))) n d ≡ or_else (first_with n q) (get_or (set slots (number_of e) (Some e)) n d) →
-        get_or (slotted q (set slots (number_of e) (Some e))) n d ≡ or_else (cond t (Some e) (first_with n q)) (get_or slots n d)
+        get_or (slotted q (set slots (number_of e) (Some e))) n d ≡ option_or (first_with n q) (get_or (set slots (number_of e) (Some e)) n d) →
+        get_or (slotted q (set slots (number_of e) (Some e))) n d ≡ option_or (cond t (Some e) (first_with n q)) (get_or slots n d)
     by true h r =
         let same = eqb-true (number_of e) n h in
         let others = none_first n q (subst (λ k. AllByRecursion (λ x. number_of x ≢ k) q) same a.0) in
-        r ∙ ap (λ o. or_else o (get_or (set slots (number_of e) (Some e)) n d)) others
+        r ∙ ap (λ o. option_or o (get_or (set slots (number_of e) (Some e)) n d)) others
         ∙ ap (λ k. get_or (set slots k (Some e)) n d) same ∙ get_or-set_same slots n (Some e) d low
     by false h r =
-        r ∙ ap (or_else (first_with n q)) (get_or-set_other slots (number_of e) n (Some e) d (λ same. eqb-false (number_of e) n h (sym same)))
+        r ∙ ap (option_or (first_with n q)) (get_or-set_other slots (number_of e) n (Some e) d (λ same. eqb-false (number_of e) n h (sym same)))
 
 slotted-append : (p q : List Resting) (slots : List (Option Resting)) → slotted (p ++ q) slots ≡ slotted q (slotted p slots)
 slotted-append [] q slots = refl
 slotted-append (e ∷ p) q slots = slotted-append p q (set slots (number_of e) (Some e))
 
-or_none : {X : Type 0} (o : Option X) → or_else o None ≡ o
+or_none : {X : Type 0} (o : Option X) → option_or o None ≡ o
 or_none None = refl
 or_none (Some x) = refl
 
@@ -106,9 +106,5 @@ slot_is sells buys n d a low =
     let free : List (Option Resting) = replicate 513 None in
     ap (λ slots. get_or slots n d) (sym (slotted-append sells buys free))
     ∙ slot_at n (sells ++ buys) free d a (omega (arith, length-replicate {A = Option Resting} 513 None))
-    ∙ ap (or_else (first_with n (sells ++ buys))) (get_or-replicate 513 n None d low)
+    ∙ ap (option_or (first_with n (sells ++ buys))) (get_or-replicate 513 n None d low)
     ∙ or_none (first_with n (sells ++ buys))
-
-pub found_by_number : (sells buys : List Resting) (slots : List (Option Resting)) (n : ℕ) (o : Option Resting) → Distinct (sells ++ buys) → n < 513 →
-    slots ≡ by_number sells buys → get_or slots n None ≡ o → first_with n (sells ++ buys) ≡ o
-found_by_number sells buys slots n o a low all' e = sym (slot_is sells buys n None a low) ∙ ap (λ xs. get_or xs n None) (sym all') ∙ e

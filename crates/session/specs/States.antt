@@ -1,17 +1,25 @@
--- What a session means, whatever its depository.
+-- What a session means, by its phase, its book and what everybody holds.
 use Rattle.std.specs.Prelude.{List}
+use Rattle.units.specs.declared.side.Side.{Side}
+use Rattle.units.specs.declared.side.Side.TheVariants.{Sell, Buy}
 use Rattle.depository.specs.declared.account.Account.{Account}
+use Rattle.market.specs.declared.phase.Phase.{Phase}
+use Rattle.market.specs.declared.order.Resting.{Resting}
 use Rattle.market.specs.State.{State}
-use Rattle.session.specs.declared.session.Session.{Session}
-use Rattle.session.specs.Books.{orders_in, sells_in, buys_in, deals_in, cancellations_in}
+use Rattle.session.specs.declared.book.Book.{Book}
 
-abbrev pub state_of : {D : Type 0} → (D → List Account) → Session D → State
-state_of accounts s = record {
-  phase = s.phase;
-  orders = orders_in s.book;
-  sells = sells_in s.book;
-  buys = buys_in s.book;
-  deals = deals_in s.book;
-  cancellations = cancellations_in s.book;
-  accounts = accounts s.depository;
+abbrev pub state_in : Phase → Book → List Account → State
+state_in phase b accounts = record {
+  phase = phase;
+  orders = b.orders.items;
+  sells = b.sells;
+  buys = b.buys;
+  deals = b.deals.items;
+  cancellations = b.cancellations.items;
+  accounts = accounts;
 }
+
+-- the queue of a side
+abbrev pub queue_in : Side → Book → List Resting
+queue_in Sell b = b.sells
+queue_in Buy b = b.buys

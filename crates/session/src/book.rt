@@ -1,29 +1,142 @@
-ghost use Rattle.std.specs.Prelude.{◌≡◌, ◌+◌, ◌*◌, ◌≤◌, length, take};
-ghost use Rattle.market.specs.Orders.{lots_in};
+ghost use Rattle.std.specs.Prelude.{◌≡◌, ◌+◌, ◌*◌, ◌<◌, ◌≤◌, [], ◌∷◌, ◌++◌, length, Some as Found, ◌==◌, ◌&&◌};
+ghost use Rattle.units.specs.declared.side.Side.TheVariants.{Sell as Selling, Buy as Buying};
+ghost use Rattle.arrayvec.specs.ArrayVec.{array_vec_len};
+ghost use Rattle.market.specs.Orders.{some, number_of, lots_in};
+ghost use Rattle.market.specs.Calls.{joined_by, cancellation_of};
+ghost use Rattle.session.specs.Lists.{first_with, without_first};
 
-use market::{Cancellation, Deal, Order, Resting};
+use super::queue::Queue;
+use arrayvec::ArrayVec;
+use market::{Cancellation, Deal, Order, OrderNumber, Resting};
+use units::{Lots, Participant, Side};
 
-/// What a session has written down: order records, the two queues, deals and cancellations. Each list is the front of its
-/// memory. None of them can overflow: an order waits, or was cancelled, at most once, and every deal uses up one of two ends.
+/// What a session has written down: order records, the two queues, deals and cancellations. None of the lists can overflow:
+/// an order waits, or was cancelled, at most once, and every deal uses up one of two ends.
 #[derive(Drop)]
 pub(crate) struct Book {
-    pub(crate) orders: [Order; 512],
-    pub(crate) order_count: usize,
-    pub(crate) sells: [Resting; 512],
-    pub(crate) sell_count: usize,
-    pub(crate) buys: [Resting; 512],
-    pub(crate) buy_count: usize,
-    pub(crate) deals: [Deal; 1024],
-    pub(crate) deal_count: usize,
-    pub(crate) cancellations: [Cancellation; 512],
-    pub(crate) cancellation_count: usize,
-    ghost orders_long: { length orders ≡ 512 },
-    ghost sells_long: { length sells ≡ 512 },
-    ghost buys_long: { length buys ≡ 512 },
-    ghost deals_long: { length deals ≡ 1024 },
-    ghost cancellations_long: { length cancellations ≡ 512 },
-    ghost few: { order_count ≤ 512 },
-    ghost cancelled_once: { cancellation_count + (sell_count + buy_count) ≤ order_count },
-    ghost dealt_out: { deal_count + (sell_count + buy_count) ≤ 2 * order_count },
-    ghost lots_bounded: { lots_in (take sell_count sells) + lots_in (take buy_count buys) ≤ 1000000 * order_count },
+    pub(crate) orders: ArrayVec<Order, 512>,
+    pub(crate) sells: Queue,
+    pub(crate) buys: Queue,
+    pub(crate) deals: ArrayVec<Deal, 1024>,
+    pub(crate) cancellations: ArrayVec<Cancellation, 512>,
+    ghost few: { array_vec_len orders ≤ 512 },
+    ghost cancelled_once: { array_vec_len cancellations + (length sells + length buys) ≤ array_vec_len orders },
+    ghost dealt_out: { array_vec_len deals + (length sells + length buys) ≤ 2 * array_vec_len orders },
+    ghost lots_bounded: { lots_in sells + lots_in buys ≤ 1000000 * array_vec_len orders },
+}
+
+impl Book {
+    ghost use Rattle.session.specs.States.{queue_in};
+
+    /// A book with nothing in it.
+    pub(crate) fn new() -> Book
+        ensures orders { result.orders.items ≡ [] }
+        ensures sells { result.sells ≡ [] }
+        ensures buys { result.buys ≡ [] }
+        ensures deals { result.deals.items ≡ [] }
+        ensures cancellations { result.cancellations.items ≡ [] }
+    {
+        Book {
+            orders: ArrayVec::new(),
+            sells: Queue::new(),
+            buys: Queue::new(),
+            deals: ArrayVec::new(),
+            cancellations: ArrayVec::new(),
+        }
+    }
+
+    /// Records an order, all of which waits.
+    pub(crate) fn enter(&mut self, order: Order)
+        requires room { array_vec_len self.old.orders < 512 }
+        requires sized { order.accepted.0 ≤ 1000000 }
+        ensures orders { self.new.orders.items ≡ self.old.orders.items ++ (order ∷ []) }
+        ensures sells { self.new.sells ≡ joined_by Selling order.side (record { order = order; lots = order.accepted }) self.old.sells }
+        ensures buys { self.new.buys ≡ joined_by Buying order.side (record { order = order; lots = order.accepted }) self.old.buys }
+        ensures deals { self.new.deals ≡ self.old.deals }
+        ensures cancellations { self.new.cancellations ≡ self.old.cancellations }
+    {
+        self.orders.push(order);
+        let entry = Resting::whole(order);
+        match order.side {
+            Side::Sell => self.sells.insert(entry),
+            Side::Buy => self.buys.insert(entry),
+        }
+    }
+
+    /// Whether an order of this participant has the number.
+    pub(crate) fn is_own(&self, who: Participant, number: OrderNumber) -> bool
+        ensures { result ≡ some (λ o. (o.number.0 == number.0) && o.participant.0 == who.0) self.now.orders.items }
+    {
+        self.orders
+            .as_slice()
+            .iter()
+            .any(|order| order.number == number && order.participant == who)
+    }
+
+    /// A side's orders that wait, in queue order.
+    pub(crate) fn queue(&self, side: Side) -> &[Resting]
+        ensures { result.now ≡ queue_in side self.now }
+    {
+        match side {
+            Side::Sell => self.sells.entries(),
+            Side::Buy => self.buys.entries(),
+        }
+    }
+
+    /// What waits of an order, if anything does.
+    pub(crate) fn waiting(&self, number: OrderNumber) -> Option<Resting>
+        ensures { result ≡ first_with number.0 (self.now.sells ++ self.now.buys) }
+    {
+        self.sells
+            .entry_of(number)
+            .or_else(|| self.buys.entry_of(number))
+    }
+
+    /// All lots that wait.
+    pub(crate) fn waiting_lots(&self) -> Lots
+        ensures { result.0 ≡ lots_in (self.now.sells ++ self.now.buys) }
+    {
+        let sells = pricing::lots_in(self.sells.entries());
+        let buys = pricing::lots_in(self.buys.entries());
+        Lots(sells.0 + buys.0)
+    }
+
+    /// Takes a waiting order out of its queue and notes the cancellation.
+    pub(crate) fn cancel(&mut self, entry: Resting)
+        requires { first_with (number_of entry) (self.old.sells ++ self.old.buys) ≡ Found entry }
+        ensures orders { self.new.orders ≡ self.old.orders }
+        ensures sells { self.new.sells ≡ without_first (number_of entry) self.old.sells }
+        ensures buys { self.new.buys ≡ without_first (number_of entry) self.old.buys }
+        ensures deals { self.new.deals ≡ self.old.deals }
+        ensures cancellations { self.new.cancellations.items ≡ self.old.cancellations.items ++ (cancellation_of entry ∷ []) }
+    {
+        let number = entry.order.number;
+        self.sells.take_out(number);
+        self.buys.take_out(number);
+        self.note(entry);
+    }
+
+    /// Notes what was annulled of an order.
+    pub(crate) fn note(&mut self, entry: Resting)
+        requires { array_vec_len self.old.cancellations + (length self.old.sells + length self.old.buys) < array_vec_len self.old.orders }
+        ensures orders { self.new.orders ≡ self.old.orders }
+        ensures sells { self.new.sells ≡ self.old.sells }
+        ensures buys { self.new.buys ≡ self.old.buys }
+        ensures deals { self.new.deals ≡ self.old.deals }
+        ensures cancellations { self.new.cancellations.items ≡ self.old.cancellations.items ++ (cancellation_of entry ∷ []) }
+    {
+        self.cancellations.push(Cancellation::from(entry));
+    }
+
+    /// Empties both queues.
+    pub(crate) fn empty_queues(&mut self)
+        ensures orders { self.new.orders ≡ self.old.orders }
+        ensures sells { self.new.sells ≡ [] }
+        ensures buys { self.new.buys ≡ [] }
+        ensures deals { self.new.deals ≡ self.old.deals }
+        ensures cancellations { self.new.cancellations ≡ self.old.cancellations }
+    {
+        self.sells.clear();
+        self.buys.clear();
+    }
 }

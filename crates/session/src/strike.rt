@@ -2,52 +2,43 @@ ghost use Rattle.std.specs.Prelude.{◌≡◌, true};
 ghost use Rattle.units.specs.Answers.{answered};
 ghost use Rattle.market.specs.CutOff.{crosses, cut_off_found, GreatestBetween};
 ghost use Rattle.market.specs.Calls.{strike_answer, strike_after};
-ghost use Rattle.market.specs.Law.{Books, Kept};
 ghost use Rattle.session.specs.Slips.{with_slip, GivesUnspent};
-ghost use Rattle.session.specs.States.{state_of};
 
-use super::phases::is_gathering;
 use super::session::Session;
 use super::slip::StrikeSlip;
-use depository::{AccountBook, Depository};
+use depository::Depository;
 use market::{Phase, SessionFault};
 use units::Price;
 
-/// What a strike comes to.
-pub enum Struck {
-    /// No waiting sell meets a waiting buy: all that waited was annulled, and Gathering goes on.
-    Abandoned,
-    /// The cut-off, and the slip that deal or annul will take.
-    At(Price, StrikeSlip),
-}
-
 impl<D: Depository> Session<D> {
-    /// Looks for the cut-off, the one price of this iteration. Refuses 21.
-    pub fn strike(&mut self) -> Result<Struck, SessionFault>
-        ensures answer { Kept (state_of D.AccountBook.accounts self.old) → result ≡ answered with_slip (strike_answer (state_of D.AccountBook.accounts self.old)) }
-        ensures after { Kept (state_of D.AccountBook.accounts self.old) → state_of D.AccountBook.accounts self.new ≡ strike_after (state_of D.AccountBook.accounts self.old) }
+    /// Looks for the cut-off, the one price of this iteration, and hands it out with the slip that deal or annul will take.
+    /// Where no waiting sell meets a waiting buy, there is none: all that waited is annulled, and Gathering goes on.
+    /// Refuses 21.
+    pub fn strike(&mut self) -> Result<Option<(Price, StrikeSlip)>, SessionFault>
+        ensures answer { result ≡ answered with_slip (strike_answer self.old.state) }
+        ensures after { self.new.state ≡ strike_after self.old.state }
         ensures unspent { GivesUnspent result }
-        ensures greatest { crosses (state_of D.AccountBook.accounts self.old).sells (state_of D.AccountBook.accounts self.old).buys ≡ true → GreatestBetween (state_of D.AccountBook.accounts self.old).sells (state_of D.AccountBook.accounts self.old).buys }
+        ensures greatest { crosses self.old.state.sells self.old.state.buys ≡ true → GreatestBetween self.old.state.sells self.old.state.buys }
     {
-        if !is_gathering(self.phase) {
+        if !self.phase.is_gathering() {
             return Err(SessionFault::WrongPhase);
         }
         match self.cut_off() {
             Some(cut_off) => {
                 self.phase = Phase::Struck { cut_off };
-                Ok(Struck::At(cut_off, StrikeSlip::make()))
+                Ok(Some((cut_off, StrikeSlip::make())))
             }
             None => {
-                self.annul_all()?;
-                Ok(Struck::Abandoned)
+                self.annul_all();
+                Ok(None)
             }
         }
     }
 
     /// The cut-off that the waiting orders give, if there is one.
     fn cut_off(&self) -> Option<Price>
-        ensures { Books (state_of D.AccountBook.accounts self.now) → result ≡ cut_off_found (state_of D.AccountBook.accounts self.now).sells (state_of D.AccountBook.accounts self.now).buys }
+        ensures { result ≡ cut_off_found self.now.state.sells self.now.state.buys }
     {
-        pricing::cut_off(self.book.sells(), self.book.buys())
+        pricing::cut_off(self.book.sells.entries(), self.book.buys.entries())
     }
 }

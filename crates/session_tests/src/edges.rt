@@ -1,19 +1,28 @@
 //! Refusals at their edges, opening and handing back.
 
 use depository::{Amount, BackOffice, Depository};
-use market::{OrderNumber, SessionFault};
+use market::{NewOrder, OrderNumber, SessionFault};
 use session::Session;
 use std::test::Fail;
 use table_depository::TableDepository;
-use units::{Lots, Money, Participant, Price, Side};
+use units::{Lots, Money, Participant, Price, RefusalCode, Side};
 
 fn number_of(fault: SessionFault) -> u8 {
-    fault.code().number
+    RefusalCode::from(fault).number
+}
+
+fn order(who: u16, side: Side, limit: u32, lots: u64) -> NewOrder {
+    NewOrder {
+        participant: Participant(who),
+        side,
+        limit: Price(limit),
+        lots: Lots(lots),
+    }
 }
 
 /// The number of the refusal, or 0.
 fn sell(session: &mut Session<TableDepository>, who: u16, limit: u32, lots: u64) -> u8 {
-    match session.submit(Participant(who), Side::Sell, Price(limit), Lots(lots)) {
+    match session.submit(order(who, Side::Sell, limit, lots)) {
         Ok(_) => 0,
         Err(fault) => number_of(fault),
     }
@@ -68,11 +77,11 @@ fn a_buy_meets_the_own_sell_from_its_limit_on(rt: HostRuntime) -> Result<(), Fai
         Ok(opened) => {
             let mut session = opened;
             assert_eq!(rt; sell(&mut session, 1, 100, 5), 0);
-            match session.submit(Participant(1), Side::Buy, Price(100), Lots(1)) {
+            match session.submit(order(1, Side::Buy, 100, 1)) {
                 Ok(_) => return Err(Fail::new("met its own sell")),
                 Err(fault) => assert_eq!(rt; number_of(fault), 15),
             }
-            match session.submit(Participant(1), Side::Buy, Price(99), Lots(1)) {
+            match session.submit(order(1, Side::Buy, 99, 1)) {
                 Ok(number) => {
                     assert_eq!(rt; number.0, 2);
                     Ok(())

@@ -1,12 +1,12 @@
 //! Best and summary of sells 100 x 40, 102 x 30 and buys 103 x 50, 101 x 30.
 
 use depository::{Amount, BackOffice};
-use market::SummaryLine;
+use market::{NewOrder, SummaryLine};
 use session::Session;
 use sparse_depository::SparseDepository;
 use std::process::Abort;
 use std::test::Fail;
-use units::{Lots, Money, Participant, Price, Side};
+use units::{Lots, Money, Participant, Price, RefusalCode, Side};
 
 const MARK: SummaryLine = SummaryLine {
     price: Price(7),
@@ -16,6 +16,15 @@ const MARK: SummaryLine = SummaryLine {
     difference: 7,
 };
 
+fn order(who: u16, side: Side, limit: u32, lots: u64) -> NewOrder {
+    NewOrder {
+        participant: Participant(who),
+        side,
+        limit: Price(limit),
+        lots: Lots(lots),
+    }
+}
+
 fn four_orders() -> Result<Session<SparseDepository>, Fail> {
     let mut depository = SparseDepository::new();
     let _ = depository.pay_in(Participant(1), Amount::Lots(Lots(100)));
@@ -23,10 +32,10 @@ fn four_orders() -> Result<Session<SparseDepository>, Fail> {
     match Session::open(depository) {
         Ok(opened) => {
             let mut session = opened;
-            let _ = session.submit(Participant(1), Side::Sell, Price(102), Lots(30));
-            let _ = session.submit(Participant(1), Side::Sell, Price(100), Lots(40));
-            let _ = session.submit(Participant(2), Side::Buy, Price(101), Lots(30));
-            let _ = session.submit(Participant(2), Side::Buy, Price(103), Lots(50));
+            let _ = session.submit(order(1, Side::Sell, 102, 30));
+            let _ = session.submit(order(1, Side::Sell, 100, 40));
+            let _ = session.submit(order(2, Side::Buy, 101, 30));
+            let _ = session.submit(order(2, Side::Buy, 103, 50));
             Ok(session)
         }
         Err(_) => Err(Fail::new("not opened")),
@@ -83,7 +92,7 @@ fn a_slice_one_line_too_short_is_left_alone(rt: HostRuntime) -> Result<(), Fail>
     let mut lines = [MARK; 3];
     match session.summary(&mut lines) {
         Ok(_) => return Err(Fail::new("written into three lines")),
-        Err(fault) => assert_eq!(rt; fault.code().number, 23),
+        Err(fault) => assert_eq!(rt; RefusalCode::from(fault).number, 23),
     }
     assert_eq!(rt; lines[0].price.0, 7);
     assert_eq!(rt; lines[2].demand.0, 7);

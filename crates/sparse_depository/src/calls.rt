@@ -4,21 +4,19 @@ ghost use Rattle.depository.specs.Accounts.{of, changed, Within};
 ghost use Rattle.depository.specs.declared.account.Account.{Account};
 ghost use Rattle.sparse_depository.specs.Entries.{accounts_of};
 ghost use Rattle.sparse_depository.specs.EntriesLemmas.{length_accounts};
-ghost use Rattle.std.proofs.Common.{rules, arith};
 
 use super::exchange::{exchange, position_of};
 use super::sparse::SparseDepository;
-use account_store::{AccountStore, Change, decide, deliver};
-use depository::{Account, AccountBook, Amount, BackOffice, Depository, DepositoryFault};
+use depository::{Account, AccountBook, AccountStore, Change, DepositoryFault, decide};
 use ordered_list::OrderedList;
-use units::{Lots, Money, Participant};
+use units::Participant;
 
 impl AccountBook for SparseDepository {
     ghost accounts = { λ s. accounts_of (take s.count s.entries) };
 
     ghost everyone = { λ s. length_accounts (take s.count s.entries) };
 
-    ghost within = { first_of (Prim.search rules, Prim.grind (arith, Self.row.coded.inj)) };
+    ghost within = { λ s. s.within };
 
     fn balances(&self, who: Participant) -> Result<Account, DepositoryFault> {
         if who.is_known() {
@@ -57,35 +55,5 @@ impl AccountStore for SparseDepository {
         let account = decide(self, who, change)?;
         self.keep(who, account);
         Ok(())
-    }
-}
-
-impl Depository for SparseDepository {
-    fn block(&mut self, who: Participant, what: Amount) -> Result<(), DepositoryFault> {
-        self.apply(who, Change::Block(what))
-    }
-
-    fn release(&mut self, who: Participant, what: Amount) -> Result<(), DepositoryFault> {
-        self.apply(who, Change::Release(what))
-    }
-
-    fn deliver(
-        &mut self,
-        seller: Participant,
-        buyer: Participant,
-        lots: Lots,
-        money: Money,
-    ) -> Result<(), DepositoryFault> {
-        deliver(self, seller, buyer, lots, money)
-    }
-}
-
-impl BackOffice for SparseDepository {
-    fn pay_in(&mut self, who: Participant, what: Amount) -> Result<(), DepositoryFault> {
-        self.apply(who, Change::Gain(what))
-    }
-
-    fn pay_out(&mut self, who: Participant, what: Amount) -> Result<(), DepositoryFault> {
-        self.apply(who, Change::Lose(what))
     }
 }

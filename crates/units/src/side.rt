@@ -1,9 +1,10 @@
 ghost use Rattle.std.specs.Prelude.{◌≡◌};
 ghost use Rattle.units.specs.Sides.{counter};
 
-/// The side of an order.
-#[derive(Clone, Copy, Debug, PartialEq, Eq)]
+/// The side of an order. The default is for memory that holds no order yet.
+#[derive(Clone, Copy, Debug, PartialEq, Eq, Default)]
 pub enum Side {
+    #[default]
     Sell,
     Buy,
 }

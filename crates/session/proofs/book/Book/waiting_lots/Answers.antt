@@ -1,10 +1,9 @@
 use Rattle.std.proofs.Common.{ap, arith}
 use Rattle.market.specs.Orders.{lots_of, lots_in}
 use Rattle.market.proofs.Totals.{total-append}
-use Rattle.session.specs.Books.{sells_in, buys_in}
 use Rattle.session.proofs.book.Book.waiting_lots.Goals as goal
 
 pub returns : goal.returns
 returns c =
     let b = c.args.self.now in
-    omega (arith, total-append lots_of (sells_in b) (buys_in b), c.lots_in-sells.ensures, c.lots_in-buys.ensures, ap lots_in c.sells.ensures, ap lots_in c.buys.ensures)
+    omega (arith, total-append lots_of b.sells b.buys, c.lots_in-sells.ensures, c.lots_in-buys.ensures, ap lots_in c.entries.ensures, ap lots_in c.entries-2.ensures)

@@ -1,5 +1,7 @@
 use Rattle.session.proofs.Clearing.{Cleared}
 use Rattle.session.proofs.session.Session.annul_all.Given as goal
 
-abbrev pub invariant-loop-i : goal.invariant-loop-i
-invariant-loop-i g l = Cleared g.D.AccountBook.accounts l.initial.self l.self l.slots l.i
+abbrev pub invariant-loop-slot : goal.invariant-loop-slot
+invariant-loop-slot g l =
+    let x = l.self-inside in
+    Cleared l.fn.self.state x.phase x.book (g.D.AccountBook.accounts x.depository) l.slot-items l.slot-index

@@ -1,15 +1,14 @@
-use Rattle.std.proofs.Common.{sym, ap, ◌∙◌, subst}
+use Rattle.std.proofs.Common.{ap, sym, subst, ◌∙◌}
 use Rattle.market.specs.Queues.{Queue}
+use Rattle.market.specs.State.{queue_of}
 use Rattle.pricing.specs.Best.{best_of}
-use Rattle.session.specs.States.{state_of}
-use Rattle.session.proofs.Lines.{kept_queues, queue_of_lem}
-use Rattle.session.proofs.Bounds.{sells-bounded, buys_bounded}
+use Rattle.session.proofs.Lines.{kept_queue, queue_of_side}
 use Rattle.session.proofs.session.Session.best.Goals as goal
 
 pub returns : goal.returns
-returns g c = λ k.
-    let s = state_of g.D.AccountBook.accounts c.args.self.now in
-    let b = c.args.self.now.book in
+returns g c =
+    let x = c.self.inside in
+    let accounts = g.D.AccountBook.accounts x.depository in
     let side = c.args.side in
-    let q = queue_of_lem side s (kept_queues s k (sells-bounded b) (buys_bounded b)) in
-    c.best.ensures side (subst (Queue side) (sym c.queue.ensures) q) ∙ ap (best_of side) c.queue.ensures
+    c.best.ensures side (subst (Queue side) (sym c.queue.ensures) (kept_queue side x.phase x.book accounts c.self.invariant))
+    ∙ ap (best_of side) (c.queue.ensures ∙ queue_of_side side x.phase x.book accounts ∙ ap (λ v. queue_of side v.state) c.self.view_is)

@@ -1,12 +1,11 @@
-use Rattle.std.proofs.Common.{◌≡◌}
+use Rattle.std.proofs.Common.{◌≡◌, subst}
 use Rattle.market.specs.CutOff.{cut_off_found}
-use Rattle.session.specs.States.{state_of}
-use Rattle.session.proofs.Lines.{books_queues, at_queues}
-use Rattle.session.proofs.Bounds.{sells-bounded, buys_bounded}
+use Rattle.session.proofs.Lines.{kept_queues, at_queues}
 use Rattle.session.proofs.session.Session.cut_off.Goals as goal
 
 pub returns : goal.returns
-returns g c = λ right.
-    let s = state_of g.D.AccountBook.accounts c.args.self.now in
-    let b = c.args.self.now.book in
-    at_queues (λ x y. c.cut_off.result ≡ cut_off_found x y) _ _ s.sells s.buys c.sells.ensures c.buys.ensures (books_queues s right (sells-bounded b) (buys_bounded b)) c.cut_off.ensures
+returns g c =
+    let x = c.self.inside in
+    let q = kept_queues x.phase x.book (g.D.AccountBook.accounts x.depository) c.self.invariant in
+    subst (λ v. c.cut_off.result ≡ cut_off_found v.state.sells v.state.buys) c.self.view_is
+    (at_queues (λ sells buys. c.cut_off.result ≡ cut_off_found sells buys) _ _ x.book.sells x.book.buys c.entries.ensures c.entries-2.ensures q c.cut_off.ensures)

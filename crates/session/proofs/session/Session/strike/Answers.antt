@@ -1,47 +1,21 @@
-use Rattle.std.proofs.Common.{◌≡◌, Bool, Some, None, Ok, rules, sym, ap, subst, ◌∙◌}
-use Rattle.units.proofs.Checks.{ok_not_err}
-use Rattle.units.specs.Answers.{answered}
-use Rattle.session.specs.declared.strike.Struck.TheVariants.{At}
-use Rattle.session.specs.declared.slip.StrikeSlip.{StrikeSlip}
-use Rattle.session.specs.Slips.{the_slip, with_slip}
-use Rattle.market.specs.Calls.{strike_answer}
+use Rattle.std.proofs.Common.{Some, sym, ap, subst, ◌∙◌}
+use Rattle.market.specs.CutOff.{cut_off_found}
 use Rattle.market.specs.Law.{Kept}
-use Rattle.market.proofs.KeptCalls.{gathering-books}
+use Rattle.market.proofs.KeptCalls.{kept_strike}
 use Rattle.market.proofs.Peak.{greatest-between}
-use Rattle.session.specs.States.{state_of}
-use Rattle.session.proofs.Strikes.{not_struck, struck}
+use Rattle.session.specs.States.{state_in}
+use Rattle.session.proofs.Strikes.{struck-after}
 use Rattle.session.proofs.session.Session.strike.Goals as goal
 
-pub returns-then-not-is_gathering : goal.returns-then-not-is_gathering
-returns-then-not-is_gathering g c =
-    let s = state_of g.D.AccountBook.accounts c.args.self.now in
-    let r = not_struck s c.if-not-is_gathering.ensures in
-    record { answer = λ _. r.0; after = λ _. r.1; unspent = tt; greatest = greatest-between s.sells s.buys }
+pub returns-then-not-is_gathering-clause-greatest : goal.returns-then-not-is_gathering-clause-greatest
+returns-then-not-is_gathering-clause-greatest g c = greatest-between c.args.self.now.state.sells c.args.self.now.state.buys
 
-pub returns-in_err-annul_all-in-None : goal.returns-in_err-annul_all-in-None
-returns-in_err-annul_all-in-None g c =
-    let s = state_of g.D.AccountBook.accounts c.args.self.now in
-    let never : Kept s → ⊥ = λ k.
-    ok_not_err c.annul_all.result _ c.in_err-annul_all-in-None.field-0.0 (c.annul_all.ensures.answer (gathering-books s k (sym c.if-not-is_gathering.ensures))) c.in_err-annul_all-in-None.was in
-    record { answer = λ k. absurd (never k); after = λ k. absurd (never k); unspent = search rules; greatest = greatest-between s.sells s.buys }
+pub invariant_of-self : goal.invariant_of-self
+invariant_of-self g c =
+    let x = c.self.inside in
+    let s = state_in x.phase x.book (g.D.AccountBook.accounts x.depository) in
+    let found = c.in-Some.ensures ∙ sym (ap (λ v. cut_off_found v.state.sells v.state.buys) c.self.view_is) in
+    subst Kept (sym (struck-after s (Some c.in-Some.cut_off) c.if-not-is_gathering.ensures found)) (kept_strike s c.self.invariant)
 
-pub returns-in-Some : goal.returns-in-Some
-returns-in-Some g c =
-    let s = state_of g.D.AccountBook.accounts c.args.self.now in
-    let gathers = c.if-not-is_gathering.ensures in
-    let found = λ (k : Kept s). struck s (Some c.in-Some.cut_off) gathers (c.in-Some.ensures (gathering-books s k (sym gathers))) in
-    let P : StrikeSlip → Type 0 = λ slip. Ok (At c.in-Some.cut_off slip) ≡ answered with_slip (strike_answer s) in
-    let slip : the_slip ≡ c.make.result = ap (λ (b : Bool). let x : StrikeSlip = record { spent = b } in x) (sym c.make.ensures) in
-    record { answer = λ k. subst P slip (found k).0; after = λ k. (found k).1; unspent = c.make.ensures; greatest = greatest-between s.sells s.buys }
-
-pub returns-in_ok-annul_all-in-None : goal.returns-in_ok-annul_all-in-None
-returns-in_ok-annul_all-in-None g c =
-    let s = state_of g.D.AccountBook.accounts c.args.self.now in
-    let gathers = c.if-not-is_gathering.ensures in
-    let none = λ (k : Kept s). struck s None gathers (c.in-None.ensures (gathering-books s k (sym gathers))) in
-    record {
-      answer = λ k. (none k).0;
-      after = λ k. c.annul_all.ensures.after (gathering-books s k (sym gathers)) ∙ (none k).1;
-      unspent = tt;
-      greatest = greatest-between s.sells s.buys;
-    }
+pub returns-in-Some-clause-greatest : goal.returns-in-Some-clause-greatest
+returns-in-Some-clause-greatest g c = greatest-between c.args.self.now.state.sells c.args.self.now.state.buys

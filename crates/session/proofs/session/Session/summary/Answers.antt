@@ -1,16 +1,18 @@
-use Rattle.std.proofs.Common.{◌≡◌}
+use Rattle.std.proofs.Common.{◌≡◌, subst}
 use Rattle.pricing.specs.Summaries.{summary_answer, summary_after}
-use Rattle.session.specs.States.{state_of}
 use Rattle.session.proofs.Lines.{kept_queues, at_queues}
-use Rattle.session.proofs.Bounds.{sells-bounded, buys_bounded}
 use Rattle.session.proofs.session.Session.summary.Goals as goal
 
-pub returns : goal.returns
-returns g c =
-    let s = state_of g.D.AccountBook.accounts c.args.self.now in
-    let b = c.args.self.now.book in
-    let lines = c.args.lines.now in
-    record {
-      answer = λ k. at_queues (λ x y. c.summary.result ≡ summary_answer x y lines) _ _ s.sells s.buys c.sells.ensures c.buys.ensures (kept_queues s k (sells-bounded b) (buys_bounded b)) c.summary.ensures.answer;
-      after = λ k. at_queues (λ x y. c.summary.new.lines ≡ summary_after x y lines) _ _ s.sells s.buys c.sells.ensures c.buys.ensures (kept_queues s k (sells-bounded b) (buys_bounded b)) c.summary.ensures.after;
-    }
+pub returns-clause-answer : goal.returns-clause-answer
+returns-clause-answer g c =
+    let x = c.self.inside in
+    let q = kept_queues x.phase x.book (g.D.AccountBook.accounts x.depository) c.self.invariant in
+    subst (λ v. c.summary.result ≡ summary_answer v.state.sells v.state.buys c.args.lines.now) c.self.view_is
+    (at_queues (λ sells buys. c.summary.result ≡ summary_answer sells buys c.args.lines.now) _ _ x.book.sells x.book.buys c.entries.ensures c.entries-2.ensures q c.summary.ensures.answer)
+
+pub returns-clause-after : goal.returns-clause-after
+returns-clause-after g c =
+    let x = c.self.inside in
+    let q = kept_queues x.phase x.book (g.D.AccountBook.accounts x.depository) c.self.invariant in
+    subst (λ v. c.summary.new.lines ≡ summary_after v.state.sells v.state.buys c.args.lines.now) c.self.view_is
+    (at_queues (λ sells buys. c.summary.new.lines ≡ summary_after sells buys c.args.lines.now) _ _ x.book.sells x.book.buys c.entries.ensures c.entries-2.ensures q c.summary.ensures.after)

@@ -1,22 +1,17 @@
-use Rattle.std.proofs.Common.{◌≡◌, true, ◌&&◌, eqb, sym, ap, ◌∙◌}
-use Rattle.market.specs.Orders.{some}
-use Rattle.market.specs.Calls.{is_own}
+use Rattle.std.proofs.Common.{◌≡◌, sym, ap, subst, ◌∙◌}
+use Rattle.units.specs.Answers.{answered}
+use Rattle.market.specs.Calls.{withdraw_answer}
 use Rattle.market.proofs.KeptCalls.{trading_books}
-use Rattle.session.specs.States.{state_of}
-use Rattle.session.proofs.Withdrawals.{withdraws, nothing_to_withdraw}
+use Rattle.session.specs.States.{state_in}
+use Rattle.session.proofs.Withdrawals.{withdraws}
 use Rattle.session.proofs.session.Session.withdrawable.Goals as goal
 
-pub returns-in-Some : goal.returns-in-Some
-returns-in-Some g c =
-    let s = state_of g.D.AccountBook.accounts c.args.self.now in
-    let own : is_own s c.args.who c.args.number ≡ true =
-    sym (c.if-not-is_among.ensures ∙ ap (some (λ o. eqb o.number.0 c.args.number.0 && eqb o.participant.0 c.args.who.0)) c.orders.ensures) in
+pub returns-clause-answer : goal.returns-clause-answer
+returns-clause-answer g c =
+    let x = c.self.inside in
+    let s = state_in x.phase x.book (g.D.AccountBook.accounts x.depository) in
     let trades = sym c.if-not-is_trading.ensures in
-    λ k. withdraws s c.args.who c.args.number c.in-Some.entry trades (sym c.if-not-is_known.ensures) own (sym c.in-Some.ensures) (trading_books s k trades)
-
-pub returns-in-None : goal.returns-in-None
-returns-in-None g c =
-    let s = state_of g.D.AccountBook.accounts c.args.self.now in
-    let own : is_own s c.args.who c.args.number ≡ true =
-    sym (c.if-not-is_among.ensures ∙ ap (some (λ o. eqb o.number.0 c.args.number.0 && eqb o.participant.0 c.args.who.0)) c.orders.ensures) in
-    λ _. nothing_to_withdraw s c.args.who c.args.number (sym c.if-not-is_trading.ensures) (sym c.if-not-is_known.ensures) own (sym c.in-None.ensures)
+    subst (λ v. answered (λ e. e.lots) c.ok_or.result ≡ withdraw_answer v.state c.args.who c.args.number) c.self.view_is (
+    ap (answered (λ e. e.lots)) c.ok_or.ensures.value
+    ∙ withdraws s c.args.who c.args.number c.waiting.result trades (sym c.if-not-is_known.ensures) (sym c.if-not-is_own.ensures) (sym c.waiting.ensures) (trading_books s c.self.invariant trades)
+    )

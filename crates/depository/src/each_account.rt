@@ -1,0 +1,36 @@
+ghost use Rattle.std.specs.Prelude.{◌≡◌, ◌≤◌, drop};
+ghost use Rattle.std.specs.Iterator.{YieldsFirst, item_count};
+
+use super::account::Account;
+use super::book::AccountBook;
+use units::Participant;
+
+/// The accounts of all participants, participant 1's first.
+#[derive(Drop)]
+pub struct EachAccount<'a, B: AccountBook> {
+    book: &'a B,
+    passed: u16,
+    ghost few: { passed ≤ 64 },
+}
+
+impl<'a, B: AccountBook> EachAccount<'a, B> {
+    pub fn of(book: &'a B) -> EachAccount<'a, B>
+        ensures { drop result.passed (B.AccountBook.accounts result.book.now) ≡ B.AccountBook.accounts book.now }
+    {
+        EachAccount { book, passed: 0 }
+    }
+}
+
+impl<'a, B: AccountBook> Iterator for EachAccount<'a, B> {
+    type Item = Account;
+
+    ghost next_gives = { YieldsFirst (λ s. drop s.passed (B.AccountBook.accounts s.book.now)) };
+
+    ghost remaining = { item_count (λ s. drop s.passed (B.AccountBook.accounts s.book.now)) };
+
+    fn next(&mut self) -> Option<Account> {
+        let account = self.book.balances(Participant(self.passed + 1)).ok()?;
+        self.passed += 1;
+        Some(account)
+    }
+}
