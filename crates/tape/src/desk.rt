@@ -65,7 +65,7 @@ impl Desk {
             &mut answers,
         ) {
             None => session,
-            Some(_) => unreachable(),
+            Some(_) => unreachable!(),
         }
     }
 }

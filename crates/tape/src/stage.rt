@@ -34,7 +34,8 @@ impl Stage {
         }
     }
 
-    /// Does what a command asks for: pay-ins and the opening before open, calls after it.
+    /// Does what a command asks for: pay-ins and the opening before open, calls after it. It takes the stage and hands one on,
+    /// since the opening makes a stage of the other kind out of the depository itself.
     fn carry_out(self, task: Task) -> (Done, Stage)
         ensures answer { result.0 ≡ task_answer task (floor_of self) }
         ensures after { floor_of result.1 ≡ task_after task (floor_of self) }
