@@ -10,7 +10,7 @@ abbrev pub names_no_unknown_rule : Command → Bool
 names_no_unknown_rule (PayInLots participant lots) = true
 names_no_unknown_rule (PayInMoney participant money) = true
 names_no_unknown_rule Open = true
-names_no_unknown_rule (Submit participant side limit lots) = true
+names_no_unknown_rule (Submit order) = true
 names_no_unknown_rule (Withdraw participant order) = true
 names_no_unknown_rule Strike = true
 names_no_unknown_rule (Add participant side lots) = true

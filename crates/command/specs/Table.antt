@@ -1,6 +1,11 @@
 -- The layout of the commands on the tape.
 use Rattle.std.specs.Prelude.{ℕ, ◌+◌, cond, List, [], ◌∷◌, Some, None, Option, ◌==◌, slice_index}
+use Rattle.units.specs.declared.participant.Participant.{Participant}
+use Rattle.units.specs.declared.quantity.Price.{Price}
+use Rattle.units.specs.declared.quantity.Lots.{Lots}
+use Rattle.units.specs.declared.side.Side.{Side}
 use Rattle.units.specs.declared.side.Side.TheVariants.{Sell, Buy}
+use Rattle.market.specs.declared.order.NewOrder.{NewOrder}
 use Rattle.command.specs.Operands.{as_participant, as_order_number, as_price, as_lots, as_money}
 use Rattle.command.specs.RuleNumbers.{rule_of}
 use Rattle.command.specs.declared.command.Command.{Command}
@@ -15,6 +20,9 @@ pub record Row : Type 0 where
 abbrev row : ℕ → List ℕ → (List ℕ → Command) → Row
 row byte widths command = record { byte = byte; widths = widths; command = command }
 
+abbrev order : Participant → Side → Price → Lots → NewOrder
+order participant side limit lots = record { participant = participant; side = side; limit = limit; lots = lots }
+
 -- the operand at this place, counted from 0
 abbrev at : List ℕ → ℕ → ℕ
 at operands i = slice_index operands i
@@ -25,8 +33,8 @@ table =
     row 0x01 (2 ∷ 4 ∷ []) (λ ns. PayInLots (as_participant (at ns 0)) (as_lots (at ns 1)))
     ∷ row 0x02 (2 ∷ 8 ∷ []) (λ ns. PayInMoney (as_participant (at ns 0)) (as_money (at ns 1)))
     ∷ row 0x03 [] (λ ns. Open)
-    ∷ row 0x10 (2 ∷ 4 ∷ 4 ∷ []) (λ ns. Submit (as_participant (at ns 0)) Sell (as_price (at ns 1)) (as_lots (at ns 2)))
-    ∷ row 0x11 (2 ∷ 4 ∷ 4 ∷ []) (λ ns. Submit (as_participant (at ns 0)) Buy (as_price (at ns 1)) (as_lots (at ns 2)))
+    ∷ row 0x10 (2 ∷ 4 ∷ 4 ∷ []) (λ ns. Submit (order (as_participant (at ns 0)) Sell (as_price (at ns 1)) (as_lots (at ns 2))))
+    ∷ row 0x11 (2 ∷ 4 ∷ 4 ∷ []) (λ ns. Submit (order (as_participant (at ns 0)) Buy (as_price (at ns 1)) (as_lots (at ns 2))))
     ∷ row 0x12 (2 ∷ 2 ∷ []) (λ ns. Withdraw (as_participant (at ns 0)) (as_order_number (at ns 1)))
     ∷ row 0x20 [] (λ ns. Strike)
     ∷ row 0x21 (2 ∷ 4 ∷ []) (λ ns. Add (as_participant (at ns 0)) Sell (as_lots (at ns 1)))

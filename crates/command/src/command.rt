@@ -3,11 +3,11 @@ ghost use Rattle.command.specs.Rules.{checked_of};
 
 use super::fault::TapeFault;
 use super::rule::{Rule, UnknownRule};
-use market::OrderNumber;
-use units::{Lots, Money, Participant, Price, Side};
+use market::{NewOrder, OrderNumber};
+use units::{Lots, Money, Participant, Side};
 
 /// A command of the tape with its operands.
-#[derive(Clone, Copy)]
+#[derive(Clone, Copy, Debug, PartialEq, Eq)]
 pub enum Command {
     PayInLots {
         participant: Participant,
@@ -18,12 +18,7 @@ pub enum Command {
         money: Money,
     },
     Open,
-    Submit {
-        participant: Participant,
-        side: Side,
-        limit: Price,
-        lots: Lots,
-    },
+    Submit(NewOrder),
     Withdraw {
         participant: Participant,
         order: OrderNumber,

@@ -8,7 +8,7 @@ use market::SessionFault;
 use units::RefusalCode;
 
 /// Why a command of the tape is refused.
-#[derive(Clone, Copy)]
+#[derive(Clone, Copy, Debug, PartialEq, Eq)]
 pub enum TapeFault {
     /// 1: the byte is no command's.
     Unknown,

@@ -7,7 +7,7 @@ use super::fault::TapeFault;
 use super::operand::Operand;
 use super::rule::Rule;
 use super::table::width_of;
-use market::OrderNumber;
+use market::{NewOrder, OrderNumber};
 use units::{Lots, Money, Participant, Price, Side};
 
 /// The command at the front of the tape, and the rest of the tape.
@@ -31,13 +31,13 @@ fn taken_apart(tape: &[u8]) -> (Command, &[u8])
     ensures { Ok (result.0, result.1.now) ≡ read_one tape.now }
 {
     match tape {
-        [0x01, p1, p0, l3, l2, l1, l0, rest @ ..] => {
-            let participant = Participant::from_bytes([*p1, *p0]);
+        [0x01, ph, pl, l3, l2, l1, l0, rest @ ..] => {
+            let participant = Participant::from_bytes([*ph, *pl]);
             let lots = Lots::from_bytes([*l3, *l2, *l1, *l0]);
             (Command::PayInLots { participant, lots }, rest)
         }
-        [0x02, p1, p0, m7, m6, m5, m4, m3, m2, m1, m0, rest @ ..] => {
-            let participant = Participant::from_bytes([*p1, *p0]);
+        [0x02, ph, pl, m7, m6, m5, m4, m3, m2, m1, m0, rest @ ..] => {
+            let participant = Participant::from_bytes([*ph, *pl]);
             let money = Money::from_bytes([*m7, *m6, *m5, *m4, *m3, *m2, *m1, *m0]);
             (Command::PayInMoney { participant, money }, rest)
         }
@@ -59,24 +59,24 @@ fn with_order(tape: &[u8]) -> (Command, &[u8])
     ensures { Ok (result.0, result.1.now) ≡ read_one tape.now }
 {
     match tape {
-        [0x10, p1, p0, c3, c2, c1, c0, l3, l2, l1, l0, rest @ ..]
-        | [0x11, p1, p0, c3, c2, c1, c0, l3, l2, l1, l0, rest @ ..] => {
-            let command = Command::Submit {
-                participant: Participant::from_bytes([*p1, *p0]),
+        [0x10, ph, pl, c3, c2, c1, c0, l3, l2, l1, l0, rest @ ..]
+        | [0x11, ph, pl, c3, c2, c1, c0, l3, l2, l1, l0, rest @ ..] => {
+            let order = NewOrder {
+                participant: Participant::from_bytes([*ph, *pl]),
                 side: side_of(tape[0]),
                 limit: Price::from_bytes([*c3, *c2, *c1, *c0]),
                 lots: Lots::from_bytes([*l3, *l2, *l1, *l0]),
             };
-            (command, rest)
+            (Command::Submit(order), rest)
         }
-        [0x12, p1, p0, o1, o0, rest @ ..] => {
-            let participant = Participant::from_bytes([*p1, *p0]);
+        [0x12, ph, pl, o1, o0, rest @ ..] => {
+            let participant = Participant::from_bytes([*ph, *pl]);
             let order = OrderNumber::from_bytes([*o1, *o0]);
             (Command::Withdraw { participant, order }, rest)
         }
-        [0x21, p1, p0, l3, l2, l1, l0, rest @ ..] | [0x22, p1, p0, l3, l2, l1, l0, rest @ ..] => {
+        [0x21, ph, pl, l3, l2, l1, l0, rest @ ..] | [0x22, ph, pl, l3, l2, l1, l0, rest @ ..] => {
             let command = Command::Add {
-                participant: Participant::from_bytes([*p1, *p0]),
+                participant: Participant::from_bytes([*ph, *pl]),
                 side: side_of(tape[0]),
                 lots: Lots::from_bytes([*l3, *l2, *l1, *l0]),
             };

@@ -3,15 +3,12 @@ use Rattle.std.proofs.Common.{◌≡◌, List, [], ◌∷◌, length, Ok, Result
 use Rattle.units.specs.Answers.{and_then}
 use Rattle.market.specs.declared.call.Call.{Call}
 use Rattle.market.specs.Runs.{Desk, Reply, desk_after, Run}
-use Rattle.market.proofs.KeptCalls.{kept_call}
-use Rattle.market.proofs.Slips.{matched_call}
 use Rattle.session.specs.Desks.{calls_made}
 use Rattle.command.specs.Rules.{checked_of, names_no_unknown_rule}
 use Rattle.command.specs.declared.command.Command.{Command}
 use Rattle.command.specs.declared.fault.TapeFault.{TapeFault}
 use Rattle.command.specs.declared.fault.TapeFault.TheVariants.{NoSuchRule}
 use Rattle.units.proofs.Checks.{checked_ok, ok_value}
-use Rattle.tape.specs.Desks.{Orderly}
 use Rattle.tape.specs.Tasks.{task_of}
 use Rattle.tape.specs.Stages.{Floor, task_answer, command_answer}
 
@@ -19,10 +16,6 @@ use Rattle.tape.specs.Stages.{Floor, task_answer, command_answer}
 pub one_call : (call : Call) (replies : List Reply) (start end : Desk) → length replies ≡ 1 → Run start (calls_made (call ∷ []) replies) end → end ≡ desk_after call start
 one_call call [] start end long r = absurd (omega arith)
 one_call call (a ∷ rest) start end long r = sym r.1
-
--- every call leaves an orderly desk
-pub orderly_call : (call : Call) (d : Desk) → Orderly d → Orderly (desk_after call d)
-orderly_call call d o = (kept_call call d o.0, matched_call call d o.1)
 
 -- a command that is checked is itself, and its task is done
 pub command_answered : (command checked : Command) (f : Floor) → Ok checked ≡ checked_of command → task_answer (task_of checked) f ≡ command_answer command f

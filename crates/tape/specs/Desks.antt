@@ -6,14 +6,13 @@ use Rattle.market.specs.declared.call.Call.TheVariants.{Annul, Close}
 use Rattle.market.specs.State.{is_struck}
 use Rattle.market.specs.Calls.{opened}
 use Rattle.market.specs.Runs.{Desk, desk_after}
-use Rattle.market.specs.Law.{Kept}
 
 abbrev pub accounts_in : TableDepository → List Account
 accounts_in t = t.accounts
 
--- what every desk of a run is like: the session is kept, and the slip is held just while it is struck
-abbrev pub Orderly : Desk → Type 0
-Orderly d = Kept d.session × (d.slip ≡ is_struck d.session.phase)
+-- what every desk of a run is like: the slip is held just while the session is struck
+abbrev pub Matched : Desk → Type 0
+Matched d = d.slip ≡ is_struck d.session.phase
 
 -- a session opened over these accounts, with no slip
 abbrev pub newly_opened : List Account → Desk

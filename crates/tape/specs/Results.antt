@@ -3,12 +3,10 @@ use Rattle.std.specs.Prelude.{◌≡◌, ℕ, ◌<◌, ◌≤◌, List, length, 
 use Rattle.market.specs.declared.deal.Deal.{Deal}
 use Rattle.market.specs.declared.deal.Cancellation.{Cancellation}
 use Rattle.market.specs.State.{State}
-use Rattle.session.specs.States.{state_of}
 use Rattle.tape.specs.declared.answer.TapeAnswer.{TapeAnswer}
 use Rattle.tape.specs.declared.host.HostFault.{HostFault}
 use Rattle.tape.specs.declared.host.HostFault.TheVariants.{TapeTooLong}
 use Rattle.tape.specs.declared.played.Played.{Played}
-use Rattle.tape.specs.Desks.{accounts_in}
 use Rattle.tape.specs.Stages.{Floor}
 use Rattle.tape.specs.Plays.{Plays, start, left}
 
@@ -17,7 +15,7 @@ answers_in p = p.answers.items
 
 -- the session that is left
 abbrev pub state_in : Played → State
-state_in p = state_of accounts_in p.session
+state_in p = p.session.state
 
 abbrev pub deals_in : Played → List Deal
 deals_in p = (state_in p).deals

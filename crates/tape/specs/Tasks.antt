@@ -10,7 +10,7 @@ abbrev pub task_of : Command → Task
 task_of (PayInLots who lots) = tasks.PayIn who (Lots lots)
 task_of (PayInMoney who money) = tasks.PayIn who (Money money)
 task_of Open = tasks.Open
-task_of (Submit who side limit lots) = tasks.Call (calls.Submit who side limit lots)
+task_of (Submit order) = tasks.Call (calls.Submit order)
 task_of (Withdraw who order) = tasks.Call (calls.Withdraw who order)
 task_of Strike = tasks.Call calls.Strike
 task_of (Add who side lots) = tasks.NotYet

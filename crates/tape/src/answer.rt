@@ -11,7 +11,7 @@ use std::fmt;
 pub(crate) type Done = Result<Option<Outcome>, TapeFault>;
 
 /// The answer to one command of the tape.
-#[derive(Clone, Copy)]
+#[derive(Clone, Copy, Debug, PartialEq, Eq)]
 pub struct TapeAnswer {
     /// Where the command's byte stands on the tape, counted from 0.
     pub offset: u16,

@@ -1,7 +1,6 @@
 ghost use Rattle.std.specs.Prelude.{◌≡◌};
 ghost use Rattle.market.specs.Calls.{open_answer};
 ghost use Rattle.market.specs.Runs.{answer_to, desk_after};
-ghost use Rattle.session.specs.States.{state_of};
 ghost use Rattle.tape.specs.Desks.{accounts_in, newly_opened, annulled_and_closed};
 
 use market::{Answer, Call, SessionFault};
@@ -21,11 +20,11 @@ impl Model for Desk {
     ghost Value = { Seen };
 
     ghost use Rattle.session.specs.Desks.{desk_of};
-    ghost use Rattle.tape.specs.Desks.{accounts_in, Orderly};
+    ghost use Rattle.tape.specs.Desks.{Matched};
 
-    ghost view = { λ d. desk_of accounts_in d.session d.slip };
+    ghost view = { λ d. desk_of d.session d.slip };
 
-    ghost invariant = { λ d. Orderly (desk_of accounts_in d.session d.slip) };
+    ghost invariant = { λ d. Matched (desk_of d.session d.slip) };
 }
 
 impl Desk {
@@ -55,7 +54,7 @@ impl Desk {
 
     /// Annuls if struck, then closes. Afterwards no slip is held, for annul has spent it.
     pub(crate) fn close(self) -> Session<TableDepository>
-        ensures { state_of accounts_in result ≡ (annulled_and_closed self).session }
+        ensures { result.state ≡ (annulled_and_closed self).session }
     {
         let Desk { mut session, slip } = self;
         let mut answers = [Err(SessionFault::WrongPhase); 2];
@@ -66,7 +65,7 @@ impl Desk {
             &mut answers,
         ) {
             None => session,
-            Some(_) => unreachable(),
+            Some(_) => unreachable!(),
         }
     }
 }

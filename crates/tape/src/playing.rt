@@ -33,6 +33,8 @@ fn play_through(tape: &[u8], answers: &mut ArrayVec<TapeAnswer, 4096>) -> Stage
     requires none { answers.old.items ≡ [] }
     ensures { Plays (length tape.now) tape.now start answers.new.items (floor_of result) }
 {
+    // A loop over the rest of the tape: each turn takes the stage that the one before it left, and a fault leaves nothing. As a
+    // chain both would be carried through a closure beside the answers.
     let mut stage = Stage::Before(TableDepository::new());
     let mut rest = tape;
     while !rest.is_empty() {

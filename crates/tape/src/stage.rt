@@ -1,6 +1,5 @@
 ghost use Rattle.std.specs.Prelude.{◌≡◌};
 ghost use Rattle.units.specs.Answers.{raised};
-ghost use Rattle.session.specs.States.{state_of};
 ghost use Rattle.command.specs.declared.fault.TapeFault.TheVariants.{Session as OfSession};
 ghost use Rattle.tape.specs.declared.task.Task.TheVariants.{PayIn as Paying};
 ghost use Rattle.tape.specs.Desks.{accounts_in};
@@ -35,7 +34,8 @@ impl Stage {
         }
     }
 
-    /// Does what a command asks for: pay-ins and the opening before open, calls after it.
+    /// Does what a command asks for: pay-ins and the opening before open, calls after it. It takes the stage and hands one on,
+    /// since the opening makes a stage of the other kind out of the depository itself.
     fn carry_out(self, task: Task) -> (Done, Stage)
         ensures answer { result.0 ≡ task_answer task (floor_of self) }
         ensures after { floor_of result.1 ≡ task_after task (floor_of self) }
@@ -59,7 +59,7 @@ impl Stage {
 
     /// The session that a run leaves: annulled if it was struck, and closed. A run that never opened leaves one without orders.
     pub(crate) fn finish(self) -> Session<TableDepository>
-        ensures { state_of accounts_in result ≡ (left (floor_of self)).session }
+        ensures { result.state ≡ (left (floor_of self)).session }
     {
         match self {
             Stage::Opened(desk) => desk.close(),

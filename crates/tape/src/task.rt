@@ -32,17 +32,7 @@ impl From<Command> for Task {
                 Task::PayIn(participant, Amount::Money(money))
             }
             Command::Open => Task::Open,
-            Command::Submit {
-                participant,
-                side,
-                limit,
-                lots,
-            } => Task::Call(Call::Submit {
-                participant,
-                side,
-                limit,
-                lots,
-            }),
+            Command::Submit(order) => Task::Call(Call::Submit(order)),
             Command::Withdraw { participant, order } => {
                 Task::Call(Call::Withdraw { participant, order })
             }
