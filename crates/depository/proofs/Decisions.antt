@@ -1,5 +1,5 @@
 -- What a change asks of the account alone is what it asks of all accounts, and it keeps the totals within their bounds.
-use Rattle.std.proofs.Common.{◌≡◌, ℕ, ◌+◌, ◌≤◌, Bool, true, false, leb, List, length, IfOk, Ok, Err, Result, sym, refl, ap, ◌∙◌, subst, arith}
+use Rattle.std.proofs.Common.{◌≡◌, ◌+◌, ◌≤◌, Bool, true, false, leb, List, length, IfOk, Ok, Err, Result, sym, refl, ap, ◌∙◌, subst, arith}
 use Rattle.std.proofs.lemmas.Bool.{leb-true, le-leb}
 use Rattle.units.specs.Answers.{check, given}
 use Rattle.units.specs.Ranges.{is_participant}
@@ -13,7 +13,7 @@ use Rattle.depository.specs.declared.change.Change.TheVariants.{Block, Release, 
 use Rattle.depository.specs.declared.fault.DepositoryFault.{DepositoryFault}
 use Rattle.depository.specs.declared.fault.DepositoryFault.TheVariants.{NoParticipant, FreeTooSmall, BlockedTooSmall, PastTotal}
 use Rattle.depository.specs.Accounts.{Within, of, changed}
-use Rattle.depository.specs.Amounts.{size, free_of, blocked_of, held_of, most_of, has_free, has_blocked, blocking, releasing, losing, surrendering}
+use Rattle.depository.specs.Amounts.{size, free_of, blocked_of, held_of, most_of, has_free, has_blocked, blocking, releasing, gaining, losing, surrendering}
 use Rattle.depository.specs.Calls.{balances_answer}
 use Rattle.depository.specs.Changes.{decided, after_answer, room_answer}
 use Rattle.depository.proofs.Totals.{HoldsNoMore, within_one, within-changed, free_gained, within_gained}
@@ -52,7 +52,7 @@ spare_check false fits e f next h = refl
 given_checked : {T : Type 0} (known test : Bool) (e f : DepositoryFault) (x : T) → known ≡ true → check test f (Ok x) ≡ given (check known e (check test f (Ok (tt {0})))) x
 given_checked true true e f x k = refl
 given_checked true false e f x k = refl
-given_checked false test e f x k = absurd (let z : ◌≡◌ {A = ℕ} 0 1 = cc in omega arith)
+given_checked false test e f x k = cc
 
 pub after_decides : (xs : List Account) → Within xs → (p : Participant) → is_participant p ≡ true → (c : Change) → Ok tt ≡ room_answer xs c → (a : Account) → a ≡ of xs p → after_answer c a ≡ decided xs p c
 after_decides xs w p k c room a old = ap (after_answer c) old ∙ at_own xs w p k c room
@@ -67,19 +67,21 @@ after_decides xs w p k c room a old = ap (after_answer c) old ∙ at_own xs w p 
     at_own xs w p k (Lose x) room = given_checked (is_participant p) (has_free x (of xs p)) NoParticipant FreeTooSmall _ k
     at_own xs w p k (Surrender x) room = given_checked (is_participant p) (has_blocked x (of xs p)) NoParticipant BlockedTooSmall _ k
 
--- what holds of the value of an answer by two checks
-made_checked : {T : Type 0} (P : T → Type 0) (known test : Bool) (e f : DepositoryFault) (x : T) → (known ≡ true → test ≡ true → P x) → IfOk (given (check known e (check test f (Ok (tt {0})))) x) P
-made_checked P true true e f x h = h refl refl
-made_checked P true false e f x h = tt
-made_checked P false test e f x h = tt
+-- where an answer by two checks accepts a change that keeps the totals within their bounds, the account that is made keeps them
+kept_within : (xs : List Account) (p : Participant) (known test : Bool) (f : DepositoryFault) (change : Account → Account) →
+    (known ≡ true → test ≡ true → Within (changed xs p change)) →
+    IfOk (given (check known NoParticipant (check test f (Ok (tt {0})))) (change (of xs p))) (λ new. (known ≡ true) × Within (changed xs p (λ _. new)))
+kept_within xs p true true f change h = (refl, h refl refl)
+kept_within xs p true false f change h = tt
+kept_within xs p false test f change h = tt
 
 pub decided-within : (xs : List Account) → Within xs → length xs ≡ 64 → (p : Participant) (c : Change) →
     IfOk (decided xs p c) (λ new. (is_participant p ≡ true) × Within (changed xs p (λ _. new)))
-decided-within xs w l p (Block x) = made_checked (λ new. (is_participant p ≡ true) × Within (changed xs p (λ _. new))) _ _ _ _ _ (λ k h. (k, within-changed xs w l p k (blocking x) (blocking_holds x (of xs p) h)))
-decided-within xs w l p (Release x) = made_checked (λ new. (is_participant p ≡ true) × Within (changed xs p (λ _. new))) _ _ _ _ _ (λ k h. (k, within-changed xs w l p k (releasing x) (releasing_holds x (of xs p) h)))
-decided-within xs w l p (Gain x) = made_checked (λ new. (is_participant p ≡ true) × Within (changed xs p (λ _. new))) _ _ _ _ _ (λ k h. (k, within_gained xs w l p k x (leb-true _ _ h)))
-decided-within xs w l p (Lose x) = made_checked (λ new. (is_participant p ≡ true) × Within (changed xs p (λ _. new))) _ _ _ _ _ (λ k h. (k, within-changed xs w l p k (losing x) (losing_holds x (of xs p))))
-decided-within xs w l p (Surrender x) = made_checked (λ new. (is_participant p ≡ true) × Within (changed xs p (λ _. new))) _ _ _ _ _ (λ k h. (k, within-changed xs w l p k (surrendering x) (surrendering_holds x (of xs p))))
+decided-within xs w l p (Block x) = kept_within xs p _ _ _ (blocking x) (λ k h. within-changed xs w l p k (blocking x) (blocking_holds x (of xs p) h))
+decided-within xs w l p (Release x) = kept_within xs p _ _ _ (releasing x) (λ k h. within-changed xs w l p k (releasing x) (releasing_holds x (of xs p) h))
+decided-within xs w l p (Gain x) = kept_within xs p _ _ _ (gaining x) (λ k h. within_gained xs w l p k x (leb-true _ _ h))
+decided-within xs w l p (Lose x) = kept_within xs p _ _ _ (losing x) (λ k h. within-changed xs w l p k (losing x) (losing_holds x (of xs p)))
+decided-within xs w l p (Surrender x) = kept_within xs p _ _ _ (surrendering x) (λ k h. within-changed xs w l p k (surrendering x) (surrendering_holds x (of xs p)))
 
 -- what the book's look-up and the account's own answer come to
 pub record Decided (xs : List Account) (p : Participant) (c : Change) (r : Result Account DepositoryFault) : Type 0 where

@@ -66,13 +66,13 @@ free_gained xs p (Money n) room = omega (arith, one_in_all money_held refl xs (p
 pub within_gained : (xs : List Account) → Within xs → length xs ≡ 64 → (p : Participant) → is_participant p ≡ true → (x : Amount) →
     in_all (held_of x) xs + size x ≤ most_of x → Within (changed xs p (gaining x))
 within_gained xs w long p known (Lots n) room =
-    let l = in_all-set lots_held xs (p.0 - 1) (gaining (Lots n) (of xs p)) (place_known xs long p known) in
-    let m = in_all-set money_held xs (p.0 - 1) (gaining (Lots n) (of xs p)) (place_known xs long p known) in
-    (omega arith, omega arith)
+    let a = gaining (Lots n) (of xs p) in
+    let there = place_known xs long p known in
+    (omega (arith, in_all-set lots_held xs (p.0 - 1) a there), omega (arith, in_all-set money_held xs (p.0 - 1) a there))
 within_gained xs w long p known (Money n) room =
-    let l = in_all-set lots_held xs (p.0 - 1) (gaining (Money n) (of xs p)) (place_known xs long p known) in
-    let m = in_all-set money_held xs (p.0 - 1) (gaining (Money n) (of xs p)) (place_known xs long p known) in
-    (omega arith, omega arith)
+    let a = gaining (Money n) (of xs p) in
+    let there = place_known xs long p known in
+    (omega (arith, in_all-set lots_held xs (p.0 - 1) a there), omega (arith, in_all-set money_held xs (p.0 - 1) a there))
 
 -- what is surrendered makes room for as much again
 pub room_surrendered : (xs : List Account) → Within xs → length xs ≡ 64 → (p : Participant) → is_participant p ≡ true → (x : Amount) →
@@ -81,9 +81,3 @@ room_surrendered xs w long p known (Lots n) h =
     omega (arith, in_all-set lots_held xs (p.0 - 1) (surrendering (Lots n) (of xs p)) (place_known xs long p known), leb-true _ _ h)
 room_surrendered xs w long p known (Money n) h =
     omega (arith, in_all-set money_held xs (p.0 - 1) (surrendering (Money n) (of xs p)) (place_known xs long p known), leb-true _ _ h)
-
--- what is added up so far, with the next account, is within the bound of all
-pub next_within : (figure : Account → ℕ) (xs : List Account) (i : ℕ) (a : Account) (sum most : ℕ) → i < length xs →
-    Ok a ≡ balances_answer xs (record { 0 = i + 1 }) → sum + in_all figure (drop i xs) ≡ in_all figure xs → in_all figure xs ≤ most →
-    sum + figure a ≤ most
-next_within figure xs i a sum most lt e so_far bound = omega (arith, in_all_next figure xs i a lt e)

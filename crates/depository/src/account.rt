@@ -5,6 +5,7 @@ use super::held::Holdings;
 use units::{Lots, Money};
 
 /// What one participant holds. Blocked amounts cover waiting orders; free ones are at the participant's hand.
+// Four figures, and not two `Holdings`: the market's rules and the contracts of all layers above name each figure.
 #[derive(Clone, Copy, PartialEq, Eq)]
 pub struct Account {
     pub free_lots: Lots,

@@ -76,8 +76,5 @@ fn must<S: AccountStore>(store: &mut S, who: Participant, change: Change)
     requires { change_answer (S.AccountBook.accounts store.old) who change ≡ Ok tt }
     ensures { S.AccountBook.accounts store.new ≡ changed (S.AccountBook.accounts store.old) who (changing change) }
 {
-    match store.apply(who, change) {
-        Ok(()) => {}
-        Err(_) => unreachable(),
-    }
+    store.apply(who, change).unwrap();
 }

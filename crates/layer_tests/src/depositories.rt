@@ -7,6 +7,7 @@ use table_depository::TableDepository;
 use units::{Lots, Money, Participant, RefusalCode};
 
 /// The refusal's number, or 0 where the call was accepted.
+// Numbers, and no `Result`s: the rules know a refusal by its number, and a row of them fits a line.
 fn number(answer: Result<(), DepositoryFault>) -> u8 {
     match answer {
         Ok(()) => 0,
@@ -32,6 +33,7 @@ fn delivery(seller: Participant, buyer: Participant, lots: u64, money: u128) -> 
 }
 
 /// Free lots, blocked lots, free money, blocked money; all 31 where the participant is refused.
+// Numbers, and no `Account`s, so that the rows that are wanted stand side by side.
 fn amounts<B: AccountBook>(book: &B, who: u16) -> [u128; 4] {
     match book.balances(Participant(who)) {
         Ok(a) => [
@@ -195,8 +197,8 @@ fn entries_are_of_those_who_hold_something(rt: HostRuntime) {
 #[test]
 fn all_64_may_have_entries(rt: HostRuntime) {
     let mut d = SparseDepository::new();
-    for i in 0..64 {
-        let _ = d.pay_in(Participant(64 - i), lots(1));
+    for number in (Participant::FIRST..=Participant::LAST).rev() {
+        let _ = d.pay_in(Participant(number), lots(1));
     }
     assert_eq!(rt; d.entry_count(), 64);
     assert_eq!(rt; amounts(&d, 17), [1, 0, 0, 0]);

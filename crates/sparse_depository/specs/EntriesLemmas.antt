@@ -1,9 +1,9 @@
 -- The entries of a sparse depository: what stays true as one comes and goes, and what they say of a participant.
-use Rattle.std.specs.Prelude.{◌≡◌, ℕ, zero, suc, ◌+◌, ◌-◌, ◌<◌, ◌≤◌, Bool, true, false, cond, List, [], ◌∷◌, length, get_or, take, replicate, ◌==◌, ◌≢◌, slice_index_or, slice_set, refl}
-use Rattle.std.proofs.Common.{sym, ap, subst, ◌∙◌, inl, inr, arith}
-use Rattle.std.specs.List.{insert, remove}
+use Rattle.std.specs.Prelude.{◌≡◌, MatchOption, ℕ, zero, suc, ◌+◌, ◌-◌, ◌<◌, ◌≤◌, true, false, cond, List, [], ◌∷◌, length, get_or, replicate, ◌==◌, ◌≢◌, slice_index_or, slice_set, refl}
+use Rattle.std.proofs.Common.{sym, ap, ◌∙◌, inl, inr, arith}
+use Rattle.std.specs.List.{insert, remove, find}
 use Rattle.std.proofs.lemmas.List.FromFn.{length-map-range_with_len, get_or-map-range_with_len}
-use Rattle.std.proofs.lemmas.List.{ext_get_or, length-take, get_or-take, length-set, get_or-set_same, get_or-set_other}
+use Rattle.std.proofs.lemmas.List.{ext_get_or, length-set, get_or-set_same, get_or-set_other}
 use Rattle.std.proofs.lemmas.Bool.{and_parts, and_from, and_left, leb-true, le-leb, lt-ltb, le-ltb, eqb-true, eqb-false, eq-eqb, ne_eqb, cases_eq, cases_lt, cases_Bool, cond-true, cond-false, not_from_false}
 use Rattle.units.specs.Ranges.{is_participant}
 use Rattle.units.specs.declared.participant.Participant.{Participant}
@@ -38,21 +38,27 @@ rising_few low [] l h = omega arith
 rising_few low (e ∷ es) l h = let p = rising_head low e es h in omega (arith, rising_few (number e + 1) es (omega arith) p.2)
 
 -- who comes before all of a rising list has no entry in it
-look_before : (low p : ℕ) (es : List AccountEntry) → p < low → rising low es ≡ true → (look es p ≡ empty) × (without p es ≡ es)
-look_before low p [] l h = (refl, refl)
-look_before low p (e ∷ es) l h =
+without_before : (low p : ℕ) (es : List AccountEntry) → p < low → rising low es ≡ true → without p es ≡ es
+without_before low p [] l h = refl
+without_before low p (e ∷ es) l h =
     let r = rising_head low e es h in
     let n = ne_eqb (number e) p (λ q. omega arith) in
-    let more = look_before (number e + 1) p es (omega arith) r.2 in
-    (cond-false _ _ _ n ∙ more.0, cond-false _ _ _ n ∙ ap (λ xs. e ∷ xs) more.1)
+    cond-false _ _ _ n ∙ ap (λ xs. e ∷ xs) (without_before (number e + 1) p es (omega arith) r.2)
+
+-- what the entries say of a participant is what the first entry with its number says, if there is one
+pub look_first : (p : ℕ) (es : List AccountEntry) → MatchOption (find (λ e. number e == p) es) (look es p ≡ empty) (λ e. look es p ≡ e.account)
+look_first p [] = refl
+look_first p (e ∷ es) =
+    elim (cases_Bool (number e == p)) [
+      | inl t ↦ simp t refl
+      | inr f ↦ simp f (look_first p es)
+    ]
 
 -- nobody's entry was found
-pub absent : (p : ℕ) (es : List AccountEntry) → Absent p es → (look es p ≡ empty) × (without p es ≡ es)
-absent p [] h = (refl, refl)
-absent p (e ∷ es) h =
-    let n = ne_eqb (number e) p (h 0 (omega arith)) in
-    let more = absent p es (λ k l. h (suc k) (omega arith)) in
-    (cond-false _ _ _ n ∙ more.0, cond-false _ _ _ n ∙ ap (λ xs. e ∷ xs) more.1)
+pub without_none : (p : ℕ) (es : List AccountEntry) → Absent p es → without p es ≡ es
+without_none p [] h = refl
+without_none p (e ∷ es) h =
+    cond-false _ _ _ (ne_eqb (number e) p (h 0 (omega arith))) ∙ ap (λ xs. e ∷ xs) (without_none p es (λ k l. h (suc k) (omega arith)))
 
 -- an entry of a rising list has at least the number that the list rises from
 number_low : (low : ℕ) (es : List AccountEntry) (i : ℕ) → i < length es → rising low es ≡ true → low ≤ number (slice_index_or es i nobody)
@@ -61,19 +67,17 @@ number_low low (e ∷ es) zero l h = (rising_head low e es h).0
 number_low low (e ∷ es) (suc i) l h = let r = rising_head low e es h in omega (arith, number_low (number e + 1) es i (omega arith) r.2)
 
 -- the participant's entry was found
-pub found : (low p : ℕ) (es : List AccountEntry) (i : ℕ) → i < length es → number (slice_index_or es i nobody) ≡ p → rising low es ≡ true →
-    (look es p ≡ (get_or es i nobody).account) × (remove es i ≡ without p es)
-found low p [] i l e h = absurd (omega arith)
-found low p (a ∷ es) zero l e h =
+pub without_found : (low p : ℕ) (es : List AccountEntry) (i : ℕ) → i < length es → number (slice_index_or es i nobody) ≡ p → rising low es ≡ true →
+    remove es i ≡ without p es
+without_found low p [] i l e h = absurd (omega arith)
+without_found low p (a ∷ es) zero l e h =
     let r = rising_head low a es h in
-    let n = eq-eqb (number a) p e in
-    (cond-true _ _ _ n, sym (cond-true _ _ _ n ∙ (look_before (number a + 1) p es (omega arith) r.2).1))
-found low p (a ∷ es) (suc i) l e h =
+    sym (cond-true _ _ _ (eq-eqb (number a) p e) ∙ without_before (number a + 1) p es (omega arith) r.2)
+without_found low p (a ∷ es) (suc i) l e h =
     let r = rising_head low a es h in
     let far = number_low (number a + 1) es i (omega arith) r.2 in
     let n = ne_eqb (number a) p (λ q. omega arith) in
-    let more = found (number a + 1) p es i (omega arith) e r.2 in
-    (cond-false _ _ _ n ∙ more.0, ap (λ xs. a ∷ xs) more.1 ∙ sym (cond-false _ _ _ n))
+    ap (λ xs. a ∷ xs) (without_found (number a + 1) p es i (omega arith) e r.2) ∙ sym (cond-false _ _ _ n)
 
 -- without a participant's entry the rest still rises and still holds, and says the same of the others
 pub rising_without : (low p : ℕ) (es : List AccountEntry) → rising low es ≡ true → rising low (without p es) ≡ true
@@ -81,10 +85,9 @@ rising_without low p [] h = refl
 rising_without low p (e ∷ es) h =
     let r = rising_head low e es h in
     let more = rising_without (number e + 1) p es r.2 in
-    let P : List AccountEntry → Type 0 = λ xs. rising low xs ≡ true in
     elim (cases_Bool (number e == p)) [
-      | inl t ↦ subst P (sym (cond-true _ _ _ t)) (rising_lower (number e + 1) low (without p es) (omega arith) more)
-      | inr f ↦ subst P (sym (cond-false _ _ _ f)) (rising_from low e (without p es) r.0 r.1 more)
+      | inl t ↦ simp t (rising_lower (number e + 1) low (without p es) (omega arith) more)
+      | inr f ↦ simp f (rising_from low e (without p es) r.0 r.1 more)
     ]
 
 pub hold_without : (p : ℕ) (es : List AccountEntry) → all_hold es ≡ true → all_hold (without p es) ≡ true
@@ -92,31 +95,28 @@ hold_without p [] h = refl
 hold_without p (e ∷ es) h =
     let a = and_parts _ _ h in
     let more = hold_without p es a.1 in
-    let P : List AccountEntry → Type 0 = λ xs. all_hold xs ≡ true in
     elim (cases_Bool (number e == p)) [
-      | inl t ↦ subst P (sym (cond-true _ _ _ t)) more
-      | inr f ↦ subst P (sym (cond-false _ _ _ f)) (and_from _ _ a.0 more)
+      | inl t ↦ simp t more
+      | inr f ↦ simp f (and_from _ _ a.0 more)
     ]
 
 look_without_same : (p : ℕ) (es : List AccountEntry) → look (without p es) p ≡ empty
 look_without_same p [] = refl
 look_without_same p (e ∷ es) =
-    let P : List AccountEntry → Type 0 = λ xs. look xs p ≡ empty in
     elim (cases_Bool (number e == p)) [
-      | inl t ↦ subst P (sym (cond-true _ _ _ t)) (look_without_same p es)
-      | inr f ↦ subst P (sym (cond-false _ _ _ f)) (cond-false _ _ _ f ∙ look_without_same p es)
+      | inl t ↦ simp t (look_without_same p es)
+      | inr f ↦ simp f (look_without_same p es)
     ]
 
 look_without_other : (p q : ℕ) (es : List AccountEntry) → (q ≢ p) → look (without p es) q ≡ look es q
 look_without_other p q [] n = refl
 look_without_other p q (e ∷ es) n =
-    let P : List AccountEntry → Type 0 = λ xs. look xs q ≡ cond (number e == q) e.account (look es q) in
     let more = look_without_other p q es n in
     elim (cases_Bool (number e == p)) [
       | inl t ↦
           let same = eqb-true (number e) p t in
-          subst P (sym (cond-true _ _ _ t)) (more ∙ sym (cond-false _ _ _ (ne_eqb (number e) q (λ r. n (sym r ∙ same)))))
-      | inr f ↦ subst P (sym (cond-false _ _ _ f)) (ap (λ a. cond (number e == q) e.account a) more)
+          simp t (more ∙ sym (cond-false _ _ _ (ne_eqb (number e) q (λ r. n (sym r ∙ same)))))
+      | inr f ↦ simp f (ap (λ a. cond (number e == q) e.account a) more)
     ]
 
 absent_cons : (p : ℕ) (e : AccountEntry) (es : List AccountEntry) → (number e ≢ p) → Absent p es → Absent p (e ∷ es)
@@ -127,8 +127,8 @@ without_absent : (p : ℕ) (es : List AccountEntry) → Absent p (without p es)
 without_absent p [] = λ k l e. omega arith
 without_absent p (a ∷ es) =
     elim (cases_Bool (number a == p)) [
-      | inl t ↦ subst (Absent p) (sym (cond-true _ _ _ t)) (without_absent p es)
-      | inr f ↦ subst (Absent p) (sym (cond-false _ _ _ f)) (absent_cons p a (without p es) (eqb-false (number a) p f) (without_absent p es))
+      | inl t ↦ simp t (without_absent p es)
+      | inr f ↦ simp f (absent_cons p a (without p es) (eqb-false (number a) p f) (without_absent p es))
     ]
 
 -- every entry of a list that rises from above x comes after x
@@ -144,16 +144,15 @@ rising_placed : (low : ℕ) (x : AccountEntry) (es : List AccountEntry) → low 
 rising_placed low x [] l m h n = rising_from low x [] l m refl
 rising_placed low x (y ∷ ys) l m h n =
     let r = rising_head low y ys h in
-    let P : Bool → Type 0 = λ b. rising low (insert (y ∷ ys) (cond b 0 (suc (position_of by_participant x ys))) x) ≡ true in
     elim (cases_lt (number x) (number y)) [
       | inl below ↦
           let first = and_from _ _ (lt-ltb (number x) (number y) below) (all_after_lem (number y + 1) x ys (omega arith) r.2) in
-          subst P (sym first) (rising_from low x (y ∷ ys) l m (rising_from (number x + 1) y ys (omega arith) r.1 r.2))
+          simp first (rising_from low x (y ∷ ys) l m (rising_from (number x + 1) y ys (omega arith) r.1 r.2))
       | inr above ↦
           let apart : number y ≡ number x → ⊥ = n 0 (omega arith) in
           let later : number y < number x = grind arith in
           let behind = and_left (by_participant y x) (all_after by_participant x ys) (le-ltb (number x) (number y) (omega arith)) in
-          subst P (sym behind) (rising_from low y (placed by_participant x ys) r.0 r.1
+          simp behind (rising_from low y (placed by_participant x ys) r.0 r.1
           (rising_placed (number y + 1) x ys (omega arith) m r.2 (λ k j. n (suc k) (omega arith))))
     ]
 
@@ -225,9 +224,8 @@ replaced_is p a es known r h =
     let x : AccountEntry = record { who = p; account = a } in
     let rest = without p.0 es in
     let rest-rises = rising_without 1 p.0 es r in
-    let P : List AccountEntry → Type 0 = Replaced p a es in
     elim (cases_Bool (is_empty a)) [
-      | inl e ↦ subst P (sym (cond-true _ _ _ e)) (record {
+      | inl e ↦ simp e (record {
         rises = rest-rises;
         hold = hold_without p.0 es h;
         few = omega (arith, rising_few 1 rest (omega arith) rest-rises);
@@ -236,7 +234,7 @@ replaced_is p a es known r h =
       | inr e ↦
           let i = position_of by_participant x rest in
           let rises = rising_placed 1 x rest low high rest-rises (without_absent p.0 es) in
-          subst P (sym (cond-false _ _ _ e)) (record {
+          simp e (record {
             rises = rises;
             hold = hold_inserted rest i x (hold_without p.0 es h) e;
             few = omega (arith, rising_few 1 (placed by_participant x rest) (omega arith) rises);
@@ -260,14 +258,6 @@ of_accounts es p known =
 pub no_entries : accounts_of [] ≡ replicate 64 empty
 unfolding accounts_of
 no_entries = refl
-
--- what the entries say of a participant, where its entry is at i of the memory
-pub look_found : (p : ℕ) (entries : List AccountEntry) (count i : ℕ) → (i < length (take count entries)) × (number (slice_index_or (take count entries) i nobody) ≡ p) →
-    rising 1 (take count entries) ≡ true → look (take count entries) p ≡ (get_or entries i nobody).account
-look_found p entries count i there rises =
-    let long = length-take count entries in
-    let below : i < count = grind arith in
-    (found 1 p (take count entries) i there.0 there.1 rises).0 ∙ ap (λ (e : AccountEntry). e.account) (get_or-take count entries i nobody below)
 
 pub within_none : Within (accounts_of [])
 unfolding accounts_of

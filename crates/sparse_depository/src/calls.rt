@@ -5,7 +5,7 @@ ghost use Rattle.depository.specs.declared.account.Account.{Account};
 ghost use Rattle.sparse_depository.specs.Entries.{accounts_of};
 ghost use Rattle.sparse_depository.specs.EntriesLemmas.{length_accounts};
 
-use super::exchange::{exchange, position_of};
+use super::exchange::{account_in, exchange};
 use super::sparse::SparseDepository;
 use depository::{Account, AccountBook, AccountStore, Change, DepositoryFault, decide};
 use ordered_list::OrderedList;
@@ -28,15 +28,12 @@ impl AccountBook for SparseDepository {
 }
 
 impl SparseDepository {
-    /// What the entries say of a participant: an empty account where there is no entry.
+    #[tactic(auto, using(crate::specs::EntriesLemmas::of_accounts))]
     fn account(&self, who: Participant) -> Account
         requires { is_participant who ≡ true }
         ensures { result ≡ of (accounts_of (take self.now.count self.now.entries)) who }
     {
-        match position_of(&self.entries[0..self.count], who) {
-            Some(i) => self.entries[i].account,
-            None => Account::EMPTY,
-        }
+        account_in(&self.entries[..self.count], who)
     }
 
     fn keep(&mut self, who: Participant, account: Account)

@@ -22,6 +22,6 @@ impl Ranked for AccountEntry {
     ghost alike = { (upward-lawful number).alike };
 
     fn ranks_after(&self, other: &AccountEntry) -> bool {
-        self.who.0 > other.who.0
+        self.who > other.who
     }
 }

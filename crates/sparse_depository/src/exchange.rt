@@ -1,22 +1,27 @@
 ghost use Rattle.std.specs.Prelude.{◌≡◌, ℕ, ◌<◌, ◌≤◌, true, length, MatchOption, ◌≢◌, slice_index_or};
 ghost use Rattle.ordered_list.specs.Lists.{list_of};
-ghost use Rattle.sparse_depository.specs.Entries.{number, rising, without, replaced, nobody};
+ghost use Rattle.sparse_depository.specs.Entries.{look, number, rising, without, replaced, nobody};
 
 use super::entry::AccountEntry;
 use depository::Account;
 use ordered_list::OrderedList;
 use units::Participant;
 
+/// What the entries say of a participant: an empty account where there is no entry.
+pub(crate) fn account_in(entries: &[AccountEntry], who: Participant) -> Account
+    ensures { result ≡ look entries.now who.0 }
+{
+    match entries.iter().find(|entry| entry.who == who) {
+        Some(entry) => entry.account,
+        None => Account::EMPTY,
+    }
+}
+
 /// The index of the participant's entry, if there is one.
-pub(crate) fn position_of(entries: &[AccountEntry], who: Participant) -> Option<usize>
+fn position_of(entries: &[AccountEntry], who: Participant) -> Option<usize>
     ensures { MatchOption result ((k : ℕ) → k < length entries.now → number (slice_index_or entries.now k nobody) ≢ who.0) (λ i. (i < length entries.now) × (number (slice_index_or entries.now i nobody) ≡ who.0)) }
 {
-    for (i, entry) in entries.iter().enumerate() {
-        if entry.who.0 == who.0 {
-            return Some(i);
-        }
-    }
-    None
+    entries.iter().position(|entry| entry.who == who)
 }
 
 /// Takes the participant's entry out of the list, if there is one.

@@ -9,6 +9,8 @@ use units::Participant;
 /// The accounts of those who hold something, in the order of their participants' numbers.
 ///
 /// The memory has a place for each of the 64 participants, so it never runs out.
+// Memory with a count, and no heap: the engine's memory is fixed. Ghost fields, and no model: the laws of a book hold of each
+// value of its type, and a model that forgets the memory behind the entries would take `Copy` from it.
 #[derive(Clone, Copy)]
 pub struct SparseDepository {
     pub(crate) entries: [AccountEntry; 64],
@@ -22,6 +24,7 @@ pub struct SparseDepository {
 
 impl SparseDepository {
     /// Nobody holds anything, so there is no entry.
+    #[tactic(auto, using(crate::specs::EntriesLemmas::no_entries, crate::specs::EntriesLemmas::within_none))]
     pub fn new() -> SparseDepository
         ensures accounts { accounts_of (take result.count result.entries) ≡ replicate 64 empty }
         ensures none { result.count ≡ 0 }

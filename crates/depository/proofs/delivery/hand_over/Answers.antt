@@ -1,8 +1,5 @@
-use Rattle.depository.proofs.Deliveries.{surrendered, gained}
+use Rattle.depository.proofs.Deliveries.{gained}
 use Rattle.depository.proofs.delivery.hand_over.Goals as goal
-
-pub must-requires : goal.must-requires
-must-requires g c = surrendered _ c.args.giver c.args.what c.requires.giver_known c.requires.there
 
 pub must-requires-2 : goal.must-requires-2
 must-requires-2 g c =

@@ -1,16 +1,17 @@
 use Rattle.std.proofs.Common.{◌≡◌, true, List, length, take, sym, ap, ◌∙◌, subst, arith}
+use Rattle.ordered_list.specs.Lists.{list_of}
 use Rattle.sparse_depository.specs.declared.entry.AccountEntry.{AccountEntry}
 use Rattle.depository.specs.Accounts.{Within}
 use Rattle.sparse_depository.specs.Entries.{accounts_of, rising, all_hold, replaced}
 use Rattle.sparse_depository.specs.EntriesLemmas.{replaced_is}
-use Rattle.sparse_depository.proofs.Lines.{memory_after, list_before}
 use Rattle.sparse_depository.proofs.sparse.SparseDepository.keep.Goals as goal
 
 pub exchange-requires : goal.exchange-requires
 exchange-requires c =
     let s = c.args.self.now in
     let es = take s.count s.entries in
-    let before = list_before s.entries _ s.count c.over-list.result.len (ap (λ x. x.now) c.over-list.ensures.lines) c.over-list.ensures.count in
+    let shown = ap (λ x. x.now) c.over-list.ensures.lines in
+    let before : es ≡ list_of c.over-list.result.len c.over-list.result.lines.now = cc in
     let R = replaced_is c.args.who c.args.account es c.requires.known s.rises s.hold in
     let P : List AccountEntry → Type 0 = λ xs. rising 1 xs ≡ true in
     let long = ap (λ xs. length (replaced c.args.who c.args.account xs)) before in
@@ -24,7 +25,8 @@ pub invariant_of-self : goal.invariant_of-self
 invariant_of-self c =
     let s = c.args.self.now in
     let es = take s.count s.entries in
-    let new = memory_after c.args.who c.args.account s.count c.over-list.result.len c.exchange.new.list.len c.done-self.result s.entries c.over-list.result.lines.now c.exchange.new.list.lines.now c.done-self.new.self.0 (ap (λ x. x.now) c.over-list.ensures.lines) c.over-list.ensures.count c.exchange.ensures.list c.done-self.ensures.count c.done-self.ensures.memory in
+    let shown = ap (λ x. x.now) c.over-list.ensures.lines in
+    let new : take c.done-self.result c.done-self.new.self.0 ≡ replaced c.args.who c.args.account es = cc in
     let R = replaced_is c.args.who c.args.account es c.requires.known s.rises s.hold in
     let Rises : List AccountEntry → Type 0 = λ xs. rising 1 xs ≡ true in
     let Holds : List AccountEntry → Type 0 = λ xs. all_hold xs ≡ true in
@@ -40,5 +42,6 @@ pub returns : goal.returns
 returns c =
     let s = c.args.self.now in
     let es = take s.count s.entries in
-    let new = memory_after c.args.who c.args.account s.count c.over-list.result.len c.exchange.new.list.len c.done-self.result s.entries c.over-list.result.lines.now c.exchange.new.list.lines.now c.done-self.new.self.0 (ap (λ x. x.now) c.over-list.ensures.lines) c.over-list.ensures.count c.exchange.ensures.list c.done-self.ensures.count c.done-self.ensures.memory in
+    let shown = ap (λ x. x.now) c.over-list.ensures.lines in
+    let new : take c.done-self.result c.done-self.new.self.0 ≡ replaced c.args.who c.args.account es = cc in
     ap accounts_of new ∙ (replaced_is c.args.who c.args.account es c.requires.known s.rises s.hold).says
