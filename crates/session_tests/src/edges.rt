@@ -1,23 +1,15 @@
 //! Refusals at their edges, opening and handing back.
 
+use super::orders::order;
 use depository::{Amount, BackOffice, Depository};
-use market::{NewOrder, OrderNumber, SessionFault};
+use market::{OrderNumber, SessionFault};
 use session::Session;
 use std::test::Fail;
 use table_depository::TableDepository;
-use units::{Lots, Money, Participant, Price, RefusalCode, Side};
+use units::{Lots, Money, Participant, RefusalCode, Side};
 
 fn number_of(fault: SessionFault) -> u8 {
     RefusalCode::from(fault).number
-}
-
-fn order(who: u16, side: Side, limit: u32, lots: u64) -> NewOrder {
-    NewOrder {
-        participant: Participant(who),
-        side,
-        limit: Price(limit),
-        lots: Lots(lots),
-    }
 }
 
 /// The number of the refusal, or 0.
@@ -35,62 +27,52 @@ fn stocked() -> TableDepository {
     depository
 }
 
-#[test]
-fn the_513th_order_is_refused(rt: HostRuntime) -> Result<(), Fail> {
+fn opened() -> Result<Session<TableDepository>, Fail> {
     match Session::open(stocked()) {
-        Ok(opened) => {
-            let mut session = opened;
-            for i in 0..512 {
-                assert_eq!(rt; sell(&mut session, 1, 100, 1), 0);
-                assert_eq!(rt; session.orders().len(), i + 1);
-            }
-            assert_eq!(rt; sell(&mut session, 1, 100, 1), 14);
-            assert_eq!(rt; session.orders().len(), 512);
-            Ok(())
-        }
+        Ok(session) => Ok(session),
         Err(_) => Err(Fail::new("not opened")),
     }
+}
+
+#[test]
+fn the_513th_order_is_refused(rt: HostRuntime) -> Result<(), Fail> {
+    let mut session = opened()?;
+    for count in 1..=512 {
+        assert_eq!(rt; sell(&mut session, 1, 100, 1), 0);
+        assert_eq!(rt; session.orders().len(), count);
+    }
+    assert_eq!(rt; sell(&mut session, 1, 100, 1), 14);
+    assert_eq!(rt; session.orders().len(), 512);
+    Ok(())
 }
 
 #[test]
 fn checks_come_in_their_order(rt: HostRuntime) -> Result<(), Fail> {
-    match Session::open(stocked()) {
-        Ok(opened) => {
-            let mut session = opened;
-            assert_eq!(rt; sell(&mut session, 65, 0, 0), 11);
-            assert_eq!(rt; sell(&mut session, 0, 0, 0), 11);
-            assert_eq!(rt; sell(&mut session, 1, 0, 0), 12);
-            assert_eq!(rt; sell(&mut session, 1, 1_000_000_001, 0), 12);
-            assert_eq!(rt; sell(&mut session, 1, 1, 0), 13);
-            assert_eq!(rt; sell(&mut session, 1, 1, 1_000_001), 13);
-            assert_eq!(rt; sell(&mut session, 2, 1, 1), 32);
-            assert_eq!(rt; sell(&mut session, 1, 1_000_000_000, 1_000_000), 0);
-            Ok(())
-        }
-        Err(_) => Err(Fail::new("not opened")),
-    }
+    let mut session = opened()?;
+    assert_eq!(rt; sell(&mut session, 65, 0, 0), 11);
+    assert_eq!(rt; sell(&mut session, 0, 0, 0), 11);
+    assert_eq!(rt; sell(&mut session, 1, 0, 0), 12);
+    assert_eq!(rt; sell(&mut session, 1, 1_000_000_001, 0), 12);
+    assert_eq!(rt; sell(&mut session, 1, 1, 0), 13);
+    assert_eq!(rt; sell(&mut session, 1, 1, 1_000_001), 13);
+    assert_eq!(rt; sell(&mut session, 2, 1, 1), 32);
+    assert_eq!(rt; sell(&mut session, 1, 1_000_000_000, 1_000_000), 0);
+    Ok(())
 }
 
 #[test]
 fn a_buy_meets_the_own_sell_from_its_limit_on(rt: HostRuntime) -> Result<(), Fail> {
-    match Session::open(stocked()) {
-        Ok(opened) => {
-            let mut session = opened;
-            assert_eq!(rt; sell(&mut session, 1, 100, 5), 0);
-            match session.submit(order(1, Side::Buy, 100, 1)) {
-                Ok(_) => return Err(Fail::new("met its own sell")),
-                Err(fault) => assert_eq!(rt; number_of(fault), 15),
-            }
-            match session.submit(order(1, Side::Buy, 99, 1)) {
-                Ok(number) => {
-                    assert_eq!(rt; number.0, 2);
-                    Ok(())
-                },
-                Err(_) => Err(Fail::new("99 does not meet 100")),
-            }
-        }
-        Err(_) => Err(Fail::new("not opened")),
+    let mut session = opened()?;
+    assert_eq!(rt; sell(&mut session, 1, 100, 5), 0);
+    match session.submit(order(1, Side::Buy, 100, 1)) {
+        Ok(_) => return Err(Fail::new("met its own sell")),
+        Err(fault) => assert_eq!(rt; number_of(fault), 15),
     }
+    assert_eq!(rt;
+        session.submit(order(1, Side::Buy, 99, 1)),
+        Ok(OrderNumber(2))
+    );
+    Ok(())
 }
 
 #[test]
@@ -99,12 +81,10 @@ fn nothing_may_be_blocked_at_opening(rt: HostRuntime) -> Result<(), Fail> {
     let _ = depository.block(Participant(1), Amount::Money(Money(1)));
     match Session::open(depository) {
         Ok(_) => Err(Fail::new("opened over blocked money")),
-        Err(refused) => {
-            let (fault, closed) = refused;
+        Err((fault, mut closed)) => {
             assert_eq!(rt; number_of(fault), 22);
-            let mut session = closed;
-            assert_eq!(rt; sell(&mut session, 1, 100, 1), 21);
-            match session.hand_back() {
+            assert_eq!(rt; sell(&mut closed, 1, 100, 1), 21);
+            match closed.hand_back() {
                 Ok(_) => Ok(()),
                 Err(_) => Err(Fail::new("a closed session hands its depository back")),
             }
@@ -114,35 +94,26 @@ fn nothing_may_be_blocked_at_opening(rt: HostRuntime) -> Result<(), Fail> {
 
 #[test]
 fn an_open_session_hands_nothing_back(rt: HostRuntime) -> Result<(), Fail> {
-    match Session::open(stocked()) {
-        Ok(opened) => match opened.hand_back() {
-            Ok(_) => Err(Fail::new("handed back while open")),
-            Err(refused) => {
-                let (fault, session) = refused;
-                assert_eq!(rt; number_of(fault), 21);
-                assert_eq!(rt; session.orders().len(), 0);
-                Ok(())
-            }
-        },
-        Err(_) => Err(Fail::new("not opened")),
+    match opened()?.hand_back() {
+        Ok(_) => Err(Fail::new("handed back while open")),
+        Err((fault, session)) => {
+            assert_eq!(rt; number_of(fault), 21);
+            assert_eq!(rt; session.orders().len(), 0);
+            Ok(())
+        }
     }
 }
 
 #[test]
 fn what_is_withdrawn_is_free_again(rt: HostRuntime) -> Result<(), Fail> {
-    match Session::open(stocked()) {
-        Ok(opened) => {
-            let mut session = opened;
-            assert_eq!(rt; sell(&mut session, 1, 100, 1_000_000), 0);
-            assert_eq!(rt; sell(&mut session, 1, 100, 1_000_000), 0);
-            assert_eq!(rt; sell(&mut session, 1, 100, 1), 32);
-            match session.withdraw(Participant(1), OrderNumber(1)) {
-                Ok(lots) => assert_eq!(rt; lots.0, 1_000_000),
-                Err(_) => return Err(Fail::new("not withdrawn")),
-            }
-            assert_eq!(rt; sell(&mut session, 1, 100, 1_000_000), 0);
-            Ok(())
-        }
-        Err(_) => Err(Fail::new("not opened")),
-    }
+    let mut session = opened()?;
+    assert_eq!(rt; sell(&mut session, 1, 100, 1_000_000), 0);
+    assert_eq!(rt; sell(&mut session, 1, 100, 1_000_000), 0);
+    assert_eq!(rt; sell(&mut session, 1, 100, 1), 32);
+    assert_eq!(rt;
+        session.withdraw(Participant(1), OrderNumber(1)),
+        Ok(Lots(1_000_000))
+    );
+    assert_eq!(rt; sell(&mut session, 1, 100, 1_000_000), 0);
+    Ok(())
 }

@@ -5,4 +5,6 @@
 #[cfg(test)]
 mod edges;
 #[cfg(test)]
+mod orders;
+#[cfg(test)]
 mod reading;

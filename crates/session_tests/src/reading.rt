@@ -1,7 +1,8 @@
 //! Best and summary of sells 100 x 40, 102 x 30 and buys 103 x 50, 101 x 30.
 
+use super::orders::order;
 use depository::{Amount, BackOffice};
-use market::{NewOrder, SummaryLine};
+use market::SummaryLine;
 use session::Session;
 use sparse_depository::SparseDepository;
 use std::process::Abort;
@@ -16,30 +17,18 @@ const MARK: SummaryLine = SummaryLine {
     difference: 7,
 };
 
-fn order(who: u16, side: Side, limit: u32, lots: u64) -> NewOrder {
-    NewOrder {
-        participant: Participant(who),
-        side,
-        limit: Price(limit),
-        lots: Lots(lots),
-    }
-}
-
 fn four_orders() -> Result<Session<SparseDepository>, Fail> {
     let mut depository = SparseDepository::new();
     let _ = depository.pay_in(Participant(1), Amount::Lots(Lots(100)));
     let _ = depository.pay_in(Participant(2), Amount::Money(Money(100_000)));
-    match Session::open(depository) {
-        Ok(opened) => {
-            let mut session = opened;
-            let _ = session.submit(order(1, Side::Sell, 102, 30));
-            let _ = session.submit(order(1, Side::Sell, 100, 40));
-            let _ = session.submit(order(2, Side::Buy, 101, 30));
-            let _ = session.submit(order(2, Side::Buy, 103, 50));
-            Ok(session)
-        }
-        Err(_) => Err(Fail::new("not opened")),
-    }
+    let Ok(mut session) = Session::open(depository) else {
+        return Err(Fail::new("not opened"));
+    };
+    let _ = session.submit(order(1, Side::Sell, 102, 30));
+    let _ = session.submit(order(1, Side::Sell, 100, 40));
+    let _ = session.submit(order(2, Side::Buy, 101, 30));
+    let _ = session.submit(order(2, Side::Buy, 103, 50));
+    Ok(session)
 }
 
 fn check_line(rt: &impl Abort, line: SummaryLine, price: u32, supply: u64, demand: u64) {
@@ -53,21 +42,9 @@ fn check_line(rt: &impl Abort, line: SummaryLine, price: u32, supply: u64, deman
 #[test]
 fn the_best_limits(rt: HostRuntime) -> Result<(), Fail> {
     let session = four_orders()?;
-    match session.best(Side::Sell) {
-        Some((price, lots)) => {
-            assert_eq!(rt; price.0, 100);
-            assert_eq!(rt; lots.0, 40);
-        }
-        None => return Err(Fail::new("no sell")),
-    }
-    match session.best(Side::Buy) {
-        Some((price, lots)) => {
-            assert_eq!(rt; price.0, 103);
-            assert_eq!(rt; lots.0, 50);
-            Ok(())
-        }
-        None => Err(Fail::new("no buy")),
-    }
+    assert_eq!(rt; session.best(Side::Sell), Some((Price(100), Lots(40))));
+    assert_eq!(rt; session.best(Side::Buy), Some((Price(103), Lots(50))));
+    Ok(())
 }
 
 #[test]
