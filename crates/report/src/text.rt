@@ -28,8 +28,7 @@ pub fn refusal_line(heap: Global, fault: HostFault) -> Result<String, AllocError
 
 /// Writes a line for each behind the text.
 fn append<T: Display>(text: &mut String, lines: &[T]) -> Result<(), AllocError>
-    requires { Prints T.Display.output }
-    ensures { OnOk result (string_bytes text.new ≡ string_bytes text.old ++ flat_map (line_with T.Display.output) lines.now) }
+    ensures { Prints T.Display.output → OnOk result (string_bytes text.new ≡ string_bytes text.old ++ flat_map (line_with T.Display.output) lines.now) }
 {
     for line in lines {
         writeln!(text, "{line}")?;

@@ -20,7 +20,7 @@ use Rattle.market.proofs.KeptBooks.{books_each, release_passes_one}
 use Rattle.session.specs.declared.book.Book.{Book}
 use Rattle.session.specs.Lists.{first_with}
 use Rattle.session.specs.Slots.{by_number}
-use Rattle.session.specs.States.{state_in}
+use Rattle.session.specs.States.{state_of}
 use Rattle.session.proofs.Annulments.{none_of, first_is, first_none}
 use Rattle.session.proofs.Same.{same_state}
 use Rattle.session.proofs.Slotting.{filled, filled_by, filled-take, filled_more, by_number_long, slot_is}
@@ -138,9 +138,9 @@ cleared_all i s t b all' so =
 
 -- a book that has lost its queues
 pub queues_emptied : (p : Phase) (accounts : List Account) (b next : Book) → next.orders ≡ b.orders → next.sells ≡ [] → next.buys ≡ [] → next.deals ≡ b.deals →
-    next.cancellations ≡ b.cancellations → state_in p next accounts ≡ emptied (state_in p b accounts)
+    next.cancellations ≡ b.cancellations → state_of p next accounts ≡ emptied (state_of p b accounts)
 queues_emptied p accounts b next orders sells buys deals cancellations =
-    same_state (state_in p next accounts) (emptied (state_in p b accounts))
+    same_state (state_of p next accounts) (emptied (state_of p b accounts))
     refl (ap (λ v. v.items) orders) sells buys (ap (λ v. v.items) deals) (ap (λ v. v.items) cancellations) refl
 
 -- the slots of the orders that there are
@@ -148,7 +148,7 @@ abbrev pub order_slots : State → List (Option Resting)
 order_slots s = take (length s.orders + 1 - 1) (drop 1 (by_number s.sells s.buys))
 
 pub order_slots_are : (s : State) (p : Phase) (b : Book) (accounts : List Account) (n : ℕ) (slots : List (Option Resting)) →
-    state_in p b accounts ≡ s → n ≡ length b.orders.items → slots ≡ by_number b.sells b.buys → take (n + 1 - 1) (drop 1 slots) ≡ order_slots s
+    state_of p b accounts ≡ s → n ≡ length b.orders.items → slots ≡ by_number b.sells b.buys → take (n + 1 - 1) (drop 1 slots) ≡ order_slots s
 order_slots_are s p b accounts n slots same count laid =
     ap (λ k. take (k + 1 - 1) (drop 1 slots)) count
     ∙ ap (λ xs. take (length b.orders.items + 1 - 1) (drop 1 xs)) laid
@@ -189,4 +189,4 @@ pub record Cleared (s : State) (p : Phase) (b : Book) (accounts : List Account) 
   pub sells : b.sells ≡ []
   pub buys : b.buys ≡ []
   pub room : length b.cancellations.items + filled (drop i slots) ≤ length b.orders.items
-  pub annulled_so_far : state_in p b accounts ≡ emptied (so_far i s)
+  pub annulled_so_far : state_of p b accounts ≡ emptied (so_far i s)

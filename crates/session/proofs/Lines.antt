@@ -14,7 +14,7 @@ use Rattle.market.proofs.Totals.{all_first, all_second}
 use Rattle.market.proofs.KeptBooks.{priced-waiting}
 use Rattle.depository.specs.declared.account.Account.{Account}
 use Rattle.session.specs.declared.book.Book.{Book}
-use Rattle.session.specs.States.{state_in, queue_in}
+use Rattle.session.specs.States.{state_of, queue_in}
 
 -- the memory bounds how long they are and how much waits in them
 abbrev Bounded : List Resting → Type 0
@@ -37,15 +37,15 @@ queues_in (Struck c) s k sells buys = books_queues s k.0 sells buys
 queues_in Continuous s k sells buys = books_queues s k sells buys
 queues_in Closed s k sells buys = record { of_sells = nobody_waits Sell s.sells k.0; of_buys = nobody_waits Buy s.buys k.1 }
 
-pub kept_queues : (p : Phase) (b : Book) (accounts : List Account) → Kept (state_in p b accounts) → Queues b.sells b.buys
-kept_queues p b accounts k = queues_in p (state_in p b accounts) k (omega arith, omega arith) (omega arith, omega arith)
+pub kept_queues : (p : Phase) (b : Book) (accounts : List Account) → Kept (state_of p b accounts) → Queues b.sells b.buys
+kept_queues p b accounts k = queues_in p (state_of p b accounts) k (omega arith, omega arith) (omega arith, omega arith)
 
 -- the queue of a side
-pub kept_queue : (side : Side) (p : Phase) (b : Book) (accounts : List Account) → Kept (state_in p b accounts) → Queue side (queue_in side b)
+pub kept_queue : (side : Side) (p : Phase) (b : Book) (accounts : List Account) → Kept (state_of p b accounts) → Queue side (queue_in side b)
 kept_queue Sell p b accounts k = (kept_queues p b accounts k).of_sells
 kept_queue Buy p b accounts k = (kept_queues p b accounts k).of_buys
 
-pub queue_of_side : (side : Side) (p : Phase) (b : Book) (accounts : List Account) → queue_in side b ≡ queue_of side (state_in p b accounts)
+pub queue_of_side : (side : Side) (p : Phase) (b : Book) (accounts : List Account) → queue_in side b ≡ queue_of side (state_of p b accounts)
 queue_of_side Sell p b accounts = refl
 queue_of_side Buy p b accounts = refl
 

@@ -1,4 +1,4 @@
--- What a session means, by its phase, its book and what everybody holds.
+-- What a session means, by its phase, its book and what everybody holds, whatever its depository.
 use Rattle.std.specs.Prelude.{List}
 use Rattle.units.specs.declared.side.Side.{Side}
 use Rattle.units.specs.declared.side.Side.TheVariants.{Sell, Buy}
@@ -8,8 +8,8 @@ use Rattle.market.specs.declared.order.Resting.{Resting}
 use Rattle.market.specs.State.{State}
 use Rattle.session.specs.declared.book.Book.{Book}
 
-abbrev pub state_in : Phase → Book → List Account → State
-state_in phase b accounts = record {
+abbrev pub state_of : Phase → Book → List Account → State
+state_of phase b accounts = record {
   phase = phase;
   orders = b.orders.items;
   sells = b.sells;

@@ -19,9 +19,9 @@ impl<D: Depository> Model for Session<D> {
 
     ghost Value = { Seen D };
 
-    ghost use Rattle.session.specs.States.{state_in};
+    ghost use Rattle.session.specs.States.{state_of};
 
-    ghost view = { λ s. record { depository = s.depository; state = state_in s.phase s.book (D.AccountBook.accounts s.depository) } };
+    ghost view = { λ s. record { depository = s.depository; state = state_of s.phase s.book (D.AccountBook.accounts s.depository) } };
 
-    ghost invariant = { λ s. Kept (state_in s.phase s.book (D.AccountBook.accounts s.depository)) };
+    ghost invariant = { λ s. Kept (state_of s.phase s.book (D.AccountBook.accounts s.depository)) };
 }

@@ -56,6 +56,7 @@ fn first_share(lots: Lots, total: Lots, offered: Lots) -> Lots
     }
 }
 
+// Beside `sum_of_lots` of check.rt: one function for both, told the field by a closure, would be longer than this line.
 fn sum_of_shares(lines: &[Share]) -> Lots
     requires { sum (shares_of lines.now) < 2 ^ 64 }
     ensures { result.0 ≡ sum (shares_of lines.now) }

@@ -16,6 +16,7 @@ pub struct Lots(pub u64);
 pub struct Money(pub u128);
 
 impl Price {
+    // The limits are numbers, here and below, and no values of the type: the crates above count with them.
     pub const LOWEST: u32 = 1;
 
     pub const HIGHEST: u32 = 1_000_000_000;

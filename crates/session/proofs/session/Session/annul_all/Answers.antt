@@ -3,7 +3,7 @@ use Rattle.units.proofs.Checks.{ok_not_err}
 use Rattle.depository.specs.Calls.{release_answer, release_after}
 use Rattle.market.specs.Calls.{all_annulled}
 use Rattle.market.specs.Law.{Kept}
-use Rattle.session.specs.States.{state_in}
+use Rattle.session.specs.States.{state_of}
 use Rattle.session.proofs.Clearing.{Cleared, order_slots, order_slots_are, slot_found, filled_orders, room_next, order_slots_long, emptied, queues_emptied, cleared_none, cleared_passes, cleared_one, cleared_all}
 use Rattle.session.proofs.Keeping.{kept_all}
 use Rattle.session.proofs.Slotting.{filled_more}
@@ -41,7 +41,7 @@ pub unreachable-requires : goal.unreachable-requires
 unreachable-requires g c =
     let s = c.args.self.now.state in
     let x = c.loop-slot.self-inside in
-    let t = state_in x.phase x.book (g.D.AccountBook.accounts x.depository) in
+    let t = state_of x.phase x.book (g.D.AccountBook.accounts x.depository) in
     let i = c.loop-slot.slot-index in
     let e = c.in-Some.entry in
     let found = slot_found s _ i (Some e) c.requires (slots_are g (goal.at.unreachable-requires g c).After-len) c.loop-slot-test.true c.in-Some.is in
@@ -53,7 +53,7 @@ loop-slot-preserved g c =
     let accounts = g.D.AccountBook.accounts in
     let s = c.args.self.now.state in
     let x = c.loop-slot.self-inside in
-    let t = state_in x.phase x.book (accounts x.depository) in
+    let t = state_of x.phase x.book (accounts x.depository) in
     let i = c.loop-slot.slot-index in
     let inv = c.loop-slot.invariant in
     let slots = take (c.len.result + 1 - 1) (drop 1 c.by_number-slots.result) in
@@ -88,11 +88,11 @@ loop-slot-preserved g c =
 
 -- all orders are annulled
 after : (g : given.Over) (c : After-loop-slot g) →
-    state_in c.loop-slot.self-inside.phase c.loop-slot.self-inside.book (g.D.AccountBook.accounts c.loop-slot.self-inside.depository) ≡ all_annulled c.args.self.now.state
+    state_of c.loop-slot.self-inside.phase c.loop-slot.self-inside.book (g.D.AccountBook.accounts c.loop-slot.self-inside.depository) ≡ all_annulled c.args.self.now.state
 after g c =
     let s = c.args.self.now.state in
     let x = c.loop-slot.self-inside in
-    cleared_all c.loop-slot.slot-index s (state_in x.phase x.book (g.D.AccountBook.accounts x.depository)) c.requires
+    cleared_all c.loop-slot.slot-index s (state_of x.phase x.book (g.D.AccountBook.accounts x.depository)) c.requires
     (omega (arith, c.loop-slot-test.false, ap length (slots_are g (goal.at.returns-clause-after g c).After-len), order_slots_long s c.requires)) c.loop-slot.invariant.annulled_so_far
 
 pub invariant_of-self : goal.invariant_of-self

@@ -4,13 +4,13 @@ use Rattle.market.specs.Calls.{opened}
 use Rattle.market.specs.Law.{Kept}
 use Rattle.market.proofs.KeptBooks.{kept_opened}
 use Rattle.market.proofs.KeptCalls.{kept_call}
-use Rattle.session.specs.States.{state_in}
+use Rattle.session.specs.States.{state_of}
 use Rattle.session.proofs.session.Session.open.Goals as goal
 
 pub invariant_of-result : goal.invariant_of-result
 invariant_of-result g c =
     let accounts = g.D.AccountBook.accounts c.args.depository in
-    let as_opened : state_in Gathering c.new.result accounts ≡ opened accounts = search rules in
+    let as_opened : state_of Gathering c.new.result accounts ≡ opened accounts = search rules in
     subst Kept (sym as_opened) (kept_opened accounts (g.met.D.AccountBook.everyone c.args.depository))
 
 pub returns-then-nothing_blocked-clause-kept : goal.returns-then-nothing_blocked-clause-kept

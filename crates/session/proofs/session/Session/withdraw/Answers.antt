@@ -6,7 +6,7 @@ use Rattle.market.specs.State.{waiting}
 use Rattle.market.specs.Calls.{withdraw_answer, withdraw_after}
 use Rattle.market.specs.Law.{Books}
 use Rattle.session.specs.Lists.{first_with}
-use Rattle.session.specs.States.{state_in}
+use Rattle.session.specs.States.{state_of}
 use Rattle.session.proofs.Keeping.{kept_after}
 use Rattle.session.proofs.Annulments.{first_number}
 use Rattle.session.proofs.Withdrawals.{cover_waits, withdrawn}
@@ -18,7 +18,7 @@ use Rattle.session.proofs.session.Session.withdraw.Goals.{After-branch-release, 
 released : (g : given.Over) (c : After-branch-release g) → c.release.result ≡ Ok tt
 released g c =
     let x = c.self.inside in
-    let s = state_in x.phase x.book (g.D.AccountBook.accounts x.depository) in
+    let s = state_of x.phase x.book (g.D.AccountBook.accounts x.depository) in
     let e = c.in_ok-entry.entry in
     let same = ap (λ v. v.state) c.self.view_is in
     let right = subst Books (sym same) c.in_ok-entry.ensures.right in
@@ -42,13 +42,13 @@ cancel-requires g c =
 
 -- it goes, its cover is released, and it is noted
 after : (g : given.Over) (c : After-cancel g) →
-    state_in c.self.inside.phase c.cancel.new.self (g.D.AccountBook.accounts c.release.new.self)
-    ≡ withdraw_after (state_in c.self.inside.phase c.self.inside.book (g.D.AccountBook.accounts c.self.inside.depository)) c.args.who c.args.number
+    state_of c.self.inside.phase c.cancel.new.self (g.D.AccountBook.accounts c.release.new.self)
+    ≡ withdraw_after (state_of c.self.inside.phase c.self.inside.book (g.D.AccountBook.accounts c.self.inside.depository)) c.args.who c.args.number
 after g c =
     let x = c.self.inside in
     let a = g.D.AccountBook.accounts in
-    let s = state_in x.phase x.book (a x.depository) in
-    let t = state_in x.phase c.cancel.new.self (a c.release.new.self) in
+    let s = state_of x.phase x.book (a x.depository) in
+    let t = state_of x.phase c.cancel.new.self (a c.release.new.self) in
     let e = c.in_ok-entry.entry in
     let same = ap (λ v. v.state) c.self.view_is in
     let right = subst Books (sym same) c.in_ok-entry.ensures.right in
@@ -63,7 +63,7 @@ pub invariant_of-self-2 : goal.invariant_of-self-2
 invariant_of-self-2 g c =
     let x = c.self.inside in
     let a = g.D.AccountBook.accounts in
-    kept_after (Withdraw c.args.who c.args.number) false (state_in x.phase x.book (a x.depository)) (state_in x.phase c.cancel.new.self (a c.release.new.self))
+    kept_after (Withdraw c.args.who c.args.number) false (state_of x.phase x.book (a x.depository)) (state_of x.phase c.cancel.new.self (a c.release.new.self))
     c.self.invariant (after g (goal.at.invariant_of-self-2 g c).After-cancel)
 
 pub returns-clause-after : goal.returns-clause-after
