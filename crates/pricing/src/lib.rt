@@ -7,7 +7,6 @@ mod best_limit;
 mod candidates;
 mod level;
 mod line;
-mod lines;
 mod span;
 mod waiting;
 

@@ -4,7 +4,7 @@ ghost use Rattle.pricing.specs.Lines.{by_price, summary_of};
 ghost use Rattle.std.proofs.Common.{rules};
 
 use market::SummaryLine;
-use ordered_list::Ranked;
+use ordered_list::{OrderedArray, Ranked};
 use units::{Lots, Price};
 
 /// What waits at a limit: the sell lots with limits at or below it, and the buy lots with limits at or above it.
@@ -14,6 +14,9 @@ pub(crate) struct Line {
     pub(crate) supply: Lots,
     pub(crate) demand: Lots,
 }
+
+/// A line for each limit that two queues have: they have 1024 at the most.
+pub(crate) type Lines = OrderedArray<Line, 1024>;
 
 // price downward
 impl Ranked for Line {

@@ -6,8 +6,7 @@ ghost use Rattle.pricing.specs.Summaries.{summary_answer, summary_after};
 
 use super::candidates::candidates;
 use super::level::{first_level, last_level, lots_in};
-use super::line::Line;
-use super::lines::Lines;
+use super::line::{Line, Lines};
 use super::span::Span;
 use market::{Resting, SessionFault, SummaryLine};
 use std::cmp::Ordering;
@@ -73,7 +72,7 @@ impl Waiting<'_> {
             let offered = last_level(sells, price);
             let asked = first_level(buys, price);
             demand = Lots(demand.0.saturating_add(asked.lots.0));
-            lines.add(Line {
+            let _ = lines.insert(Line {
                 price,
                 supply,
                 demand,

@@ -6,7 +6,7 @@ ghost use Rattle.market.specs.Orders.{number_of, lots_in};
 ghost use Rattle.market.specs.Calls.{joined_by, cancellation_of};
 ghost use Rattle.session.specs.Lists.{first_with, without_first};
 
-use super::queue::Queue;
+use super::queue::{Queue, entry_in, put_in, take_out};
 use arrayvec::ArrayVec;
 use market::{Cancellation, Deal, Order, OrderNumber, Resting};
 use pricing::Waiting;
@@ -60,8 +60,8 @@ impl Book {
         self.orders.push(order);
         let entry = Resting::whole(order);
         match order.side {
-            Side::Sell => self.sells.insert(entry),
-            Side::Buy => self.buys.insert(entry),
+            Side::Sell => put_in(&mut self.sells, entry),
+            Side::Buy => put_in(&mut self.buys, entry),
         }
     }
 
@@ -80,8 +80,8 @@ impl Book {
         ensures { result.now ≡ queue_in side self.now }
     {
         match side {
-            Side::Sell => self.sells.entries(),
-            Side::Buy => self.buys.entries(),
+            Side::Sell => self.sells.as_slice(),
+            Side::Buy => self.buys.as_slice(),
         }
     }
 
@@ -91,8 +91,8 @@ impl Book {
         ensures buys { result.buys.now ≡ self.now.buys }
     {
         Waiting {
-            sells: self.sells.entries(),
-            buys: self.buys.entries(),
+            sells: self.sells.as_slice(),
+            buys: self.buys.as_slice(),
         }
     }
 
@@ -100,17 +100,15 @@ impl Book {
     pub(crate) fn entry_of(&self, number: OrderNumber) -> Option<Resting>
         ensures { result ≡ first_with number.0 (self.now.sells ++ self.now.buys) }
     {
-        self.sells
-            .entry_of(number)
-            .or_else(|| self.buys.entry_of(number))
+        entry_in(self.sells.as_slice(), number).or_else(|| entry_in(self.buys.as_slice(), number))
     }
 
     /// All lots that wait.
     pub(crate) fn waiting_lots(&self) -> Lots
         ensures { result.0 ≡ lots_in (self.now.sells ++ self.now.buys) }
     {
-        let sells = pricing::lots_in(self.sells.entries());
-        let buys = pricing::lots_in(self.buys.entries());
+        let sells = pricing::lots_in(self.sells.as_slice());
+        let buys = pricing::lots_in(self.buys.as_slice());
         Lots(sells.0 + buys.0)
     }
 
@@ -124,8 +122,8 @@ impl Book {
         ensures cancellations { self.new.cancellations.items ≡ self.old.cancellations.items ++ (cancellation_of entry ∷ []) }
     {
         let number = entry.order.number;
-        self.sells.take_out(number);
-        self.buys.take_out(number);
+        take_out(&mut self.sells, number);
+        take_out(&mut self.buys, number);
         self.note(entry);
     }
 

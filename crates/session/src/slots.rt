@@ -30,8 +30,8 @@ impl Book {
         ensures { result ≡ by_number self.now.sells self.now.buys }
     {
         let mut slots = [None; 513];
-        place_by_number(self.sells.entries(), &mut slots);
-        place_by_number(self.buys.entries(), &mut slots);
+        place_by_number(self.sells.as_slice(), &mut slots);
+        place_by_number(self.buys.as_slice(), &mut slots);
         slots
     }
 }

@@ -10,7 +10,8 @@ use units::Participant;
 ///
 /// The memory has a place for each of the 64 participants, so it never runs out.
 // Memory with a count, and no heap: the engine's memory is fixed. Ghost fields, and no model: the laws of a book hold of each
-// value of its type, and a model that forgets the memory behind the entries would take `Copy` from it.
+// value of its type, and a model that forgets the memory behind the entries, as that of `OrderedArray` does, would take `Copy`
+// from it.
 #[derive(Clone, Copy)]
 pub struct SparseDepository {
     pub(crate) entries: [AccountEntry; 64],

@@ -36,6 +36,6 @@ loop-price-smaller c =
 pub loop-price-preserved : goal.loop-price-preserved
 loop-price-preserved c = λ q.
     walk_turn c.args.self.sells.now c.args.self.buys.now (reverse c.loop-price.sells.now) c.loop-price.buys.now (reverse c.last_level-offered.result.rest.now) c.first_level-asked.result.rest.now
-    c.loop-price.lines c.add.new.self c.loop-price.supply.0 c.loop-price.demand.0 c.saturating_sub.result c.saturating_add.result c.last_level-offered.result.lots.0 c.first_level-asked.result.lots.0 c.in-Some.price
+    c.loop-price.lines c.insert.new.self c.loop-price.supply.0 c.loop-price.demand.0 c.saturating_sub.result c.saturating_add.result c.last_level-offered.result.lots.0 c.first_level-asked.result.lots.0 c.in-Some.price
     q (c.loop-price.invariant q) (sym c.in-Some.ensures) c.last_level-offered.ensures.rest c.first_level-asked.ensures.rest c.last_level-offered.ensures.lots c.first_level-asked.ensures.lots
-    c.saturating_add.ensures c.saturating_sub.ensures c.add.ensures
+    c.saturating_add.ensures c.saturating_sub.ensures c.insert.ensures.list

@@ -8,10 +8,10 @@ pub invariant_of-self : goal.invariant_of-self
 invariant_of-self c =
     let q = c.args.self.now.sells in
     let e = c.whole-entry.result in
-    omega (arith, c.push.ensures.len, ap length c.insert.ensures, length-placed queue_after e q, ap lots_in c.insert.ensures, total-placed lots_of queue_after e q, ap (λ l. l.0) c.whole-entry.ensures.lots)
+    omega (arith, c.push.ensures.len, ap length c.put_in.ensures, length-placed queue_after e q, ap lots_in c.put_in.ensures, total-placed lots_of queue_after e q, ap (λ l. l.0) c.whole-entry.ensures.lots)
 
 pub invariant_of-self-in-Buy : goal.invariant_of-self-in-Buy
 invariant_of-self-in-Buy c =
     let q = c.args.self.now.buys in
     let e = c.whole-entry.result in
-    omega (arith, c.push.ensures.len, ap length c.insert-in-Buy.ensures, length-placed queue_after e q, ap lots_in c.insert-in-Buy.ensures, total-placed lots_of queue_after e q, ap (λ l. l.0) c.whole-entry.ensures.lots)
+    omega (arith, c.push.ensures.len, ap length c.put_in-in-Buy.ensures, length-placed queue_after e q, ap lots_in c.put_in-in-Buy.ensures, total-placed lots_of queue_after e q, ap (λ l. l.0) c.whole-entry.ensures.lots)
