@@ -9,6 +9,7 @@ use units::{Lots, Money, Participant, Side};
 /// A command of the tape with its operands.
 #[derive(Clone, Copy, Debug, PartialEq, Eq)]
 pub enum Command {
+    // two pay-ins, as the tape has two commands with operands of two widths
     PayInLots {
         participant: Participant,
         lots: Lots,

@@ -5,6 +5,7 @@ ghost use Rattle.command.specs.declared.table.TheConstants.{FORMATS};
 
 /// The twelve commands as they stand on the tape: the command byte, and the widths in bytes of the operands behind it.
 /// No command has more than three operands; where there are fewer the last widths are 0.
+// A constant table of numbers, since a tape is bytes: what reading is held against is seen at a glance.
 pub const FORMATS: [(u8, [u8; 3]); 12] = [
     (0x01, [2, 4, 0]), // pay in lots: participant, lots
     (0x02, [2, 8, 0]), // pay in money: participant, money

@@ -1,6 +1,7 @@
 use super::amount::Amount;
 
 /// What can be done to one account.
+// Data and no closure: what a change gives is said by cases, for every store alike.
 #[derive(Clone, Copy, PartialEq, Eq)]
 pub enum Change {
     /// From free to blocked.

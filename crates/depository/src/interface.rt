@@ -12,6 +12,7 @@ use units::Participant;
 ///
 /// Each call says what it makes of the 64 accounts and under which condition it refuses; a refused call leaves every
 /// account as it was. An amount of 0 is an amount like any other.
+// `who` and `what` stay two values: a struct of the two would say no more than they do.
 pub trait Depository: AccountBook {
     /// Moves an amount from free to blocked. Refuses 31, 32.
     fn block(&mut self, who: Participant, what: Amount) -> Result<(), DepositoryFault>

@@ -10,6 +10,7 @@ pub enum ListFault {
 }
 
 /// What the refusal is known by outside.
+// Each layer has a table of its own: the numbers are all that these impls say.
 impl From<ListFault> for RefusalCode {
     ghost use Rattle.std.specs.Prelude.{◌≡◌};
     ghost use Rattle.ordered_list.specs.Refusals.{code_of};

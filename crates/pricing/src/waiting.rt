@@ -13,6 +13,8 @@ use std::cmp::Ordering;
 use units::{Lots, Price};
 
 /// The two queues of waiting orders: sells price upward, buys price downward.
+// That they are such queues (`Queues`) is a premise of what is promised of them, and no fact of the type: the type would ask it
+// of callers, and any slices are let in.
 #[derive(Clone, Copy)]
 pub struct Waiting<'a> {
     pub sells: &'a [Resting],

@@ -46,6 +46,7 @@ fn step<D: Depository>(
     ensures unspent { IsUnspent slip → IsUnspent result.1 }
     ensures after { desk_of session.new result.1 ≡ desk_after call (desk_of session.old slip) }
 {
+    // by cases, and no table of closures: runs quantify over calls, so a call is a value
     match call {
         Call::Submit(order) => {
             let accepted = |number| Outcome::Accepted {

@@ -8,6 +8,7 @@ use std::test::Fail;
 use table_depository::TableDepository;
 use units::{Lots, Money, Participant, RefusalCode, Side};
 
+/// What the rules know a refusal by.
 fn number_of(fault: SessionFault) -> u8 {
     RefusalCode::from(fault).number
 }

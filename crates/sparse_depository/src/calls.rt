@@ -18,6 +18,7 @@ impl AccountBook for SparseDepository {
 
     ghost within = { λ s. s.within };
 
+    // the test stands in both stores: in one place it would need a second method, with a precondition
     fn balances(&self, who: Participant) -> Result<Account, DepositoryFault> {
         if who.is_known() {
             Ok(self.account(who))

@@ -13,6 +13,7 @@ impl AccountBook for TableDepository {
 
     ghost within = { λ t. t.within };
 
+    // the test stands in both stores: in one place it would need a second method, with a precondition
     fn balances(&self, who: Participant) -> Result<Account, DepositoryFault> {
         if who.is_known() {
             Ok(self.accounts[place(who)])

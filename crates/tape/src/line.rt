@@ -8,6 +8,7 @@ use std::fmt;
 use units::RefusalCode;
 
 /// The figures that a line of the result shows for an answer, 0 for each that it hasn't.
+// Numbers, since they are what is printed; the answer itself has the outcome or the fault whole.
 #[derive(Clone, Copy)]
 pub(crate) struct Line {
     offset: u16,

@@ -24,6 +24,7 @@ impl From<Command> for Task {
     ghost from_gives = { λ command task. task ≡ task_of command };
 
     fn from(command: Command) -> Task {
+        // by cases: a command is what stands on the tape
         match command {
             Command::PayInLots { participant, lots } => {
                 Task::PayIn(participant, Amount::Lots(lots))

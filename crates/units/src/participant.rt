@@ -11,6 +11,7 @@ impl Participant {
     pub const LAST: u16 = 64;
 
     /// Whether somebody has this number.
+    // A line of its own, as `Price::in_range` and `Lots::in_order_range`: the three have numbers of three widths.
     pub fn is_known(self) -> bool
         ensures { result ≡ is_participant self }
     {

@@ -1,6 +1,7 @@
 use std::fmt;
 
 /// What a refusal is known by outside: the layer that refused, and the number of its rule.
+// Numbers, since they stand in results and in the rules; inside, each layer has an enum.
 #[derive(Clone, Copy, Debug, PartialEq, Eq)]
 pub struct RefusalCode {
     pub layer: u8,
