@@ -7,6 +7,8 @@ mod depositories;
 #[cfg(test)]
 mod numbers;
 #[cfg(test)]
+mod ordered_arrays;
+#[cfg(test)]
 mod ordered_lists;
 #[cfg(test)]
 mod sharing_rules;

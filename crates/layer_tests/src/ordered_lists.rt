@@ -4,10 +4,10 @@ ghost use Rattle.ordered_list.proofs.Keys.{down_up-lawful};
 use crate::numbers::or_number;
 use ordered_list::{OrderedList, Ranked};
 
-#[derive(Clone, Copy)]
-struct Line {
-    price: u32,
-    number: u32,
+#[derive(Clone, Copy, Default)]
+pub(crate) struct Line {
+    pub(crate) price: u32,
+    pub(crate) number: u32,
 }
 
 // by price downward, then by number upward
@@ -25,7 +25,7 @@ impl Ranked for Line {
     }
 }
 
-fn entry(price: u32, number: u32) -> Line {
+pub(crate) fn entry(price: u32, number: u32) -> Line {
     Line { price, number }
 }
 
