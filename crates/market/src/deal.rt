@@ -43,10 +43,12 @@ impl fmt::Display for Deal {
     ghost output = { λ deal. Some (join_with_byte 32 (deal_fields deal)) };
 
     fn fmt<W: fmt::Write>(&self, f: &mut fmt::Formatter<W>) -> fmt::Result {
-        let sell = self.sell.0;
-        let buy = self.buy.0;
-        let price = self.price.0;
-        let lots = self.lots.0;
+        let Deal {
+            sell,
+            buy,
+            price,
+            lots,
+        } = self;
         write!(f, "D {sell} {buy} {price} {lots}")
     }
 }
@@ -60,8 +62,7 @@ impl fmt::Display for Cancellation {
     ghost output = { λ line. Some (join_with_byte 32 (cancellation_fields line)) };
 
     fn fmt<W: fmt::Write>(&self, f: &mut fmt::Formatter<W>) -> fmt::Result {
-        let order = self.order.0;
-        let lots = self.lots.0;
+        let Cancellation { order, lots } = self;
         write!(f, "C {order} {lots}")
     }
 }

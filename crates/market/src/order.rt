@@ -4,11 +4,24 @@ ghost use Rattle.std.proofs.Common.{rules};
 
 use depository::Amount;
 use ordered_list::Ranked;
+use std::fmt;
 use units::{Lots, Participant, Price, Side};
 
 /// The number of an accepted order: 1, 2 and so on, as they come.
 #[derive(Clone, Copy, Debug, PartialEq, Eq, PartialOrd, Ord, Default)]
 pub struct OrderNumber(pub u16);
+
+// the number in decimal
+impl fmt::Display for OrderNumber {
+    ghost use Rattle.std.specs.Prelude.{Some, decimal};
+
+    ghost output = { λ n. Some (decimal n.0) };
+
+    fn fmt<W: fmt::Write>(&self, f: &mut fmt::Formatter<W>) -> fmt::Result {
+        let OrderNumber(number) = self;
+        write!(f, "{number}")
+    }
+}
 
 /// An order as it is handed in.
 #[derive(Clone, Copy, Debug, PartialEq, Eq)]

@@ -66,8 +66,9 @@ impl<T: Ranked + Copy + Default, const N: usize> OrderedArray<T, N> {
     }
 }
 
-/// Puts a line among the first `len` lines of the memory. A function of its own over a slice: tried in `insert`, and of an
-/// array `[T; N]` that a list was put over the proof knows nothing afterwards.
+/// Puts a line among the first `len` lines of the memory.
+// Over a slice: tried over `[T; N]`, and the proof knows nothing of the array afterwards. Two functions, this one and the
+// next, since what they answer differs.
 fn insert_among<T: Ranked + Copy>(
     memory: &mut [T],
     len: &mut usize,
@@ -83,7 +84,7 @@ fn insert_among<T: Ranked + Copy>(
     answer
 }
 
-/// Takes a line out of the first `len` lines of the memory, for the same reason beside `remove`.
+/// Takes a line out of the first `len` lines of the memory.
 fn remove_among<T: Ranked + Copy>(
     memory: &mut [T],
     len: &mut usize,

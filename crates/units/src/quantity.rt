@@ -2,6 +2,8 @@ ghost use Rattle.std.specs.Prelude.{◌≡◌};
 ghost use Rattle.units.specs.Ranges.{is_price, is_order_size};
 ghost use Rattle.units.specs.Worth.{worth};
 
+use std::fmt;
+
 /// A price in whole price steps. An order's limit and a cut-off lie from 1 to 1,000,000,000.
 #[derive(Clone, Copy, Debug, PartialEq, Eq, PartialOrd, Ord, Default)]
 pub struct Price(pub u32);
@@ -16,7 +18,7 @@ pub struct Lots(pub u64);
 pub struct Money(pub u128);
 
 impl Price {
-    // The limits are numbers, here and below, and no values of the type: the crates above count with them.
+    // Public constants, here and below: numbers, and no values of the type, as the crates above count with some of them.
     pub const LOWEST: u32 = 1;
 
     pub const HIGHEST: u32 = 1_000_000_000;
@@ -54,4 +56,40 @@ impl Lots {
 impl Money {
     /// The most money that all participants together may hold.
     pub const GREATEST_TOTAL: u128 = 1_000_000_000_000_000_000;
+}
+
+// the number in decimal
+impl fmt::Display for Price {
+    ghost use Rattle.std.specs.Prelude.{Some, decimal};
+
+    ghost output = { λ price. Some (decimal price.0) };
+
+    fn fmt<W: fmt::Write>(&self, f: &mut fmt::Formatter<W>) -> fmt::Result {
+        let Price(steps) = self;
+        write!(f, "{steps}")
+    }
+}
+
+// the number in decimal
+impl fmt::Display for Lots {
+    ghost use Rattle.std.specs.Prelude.{Some, decimal};
+
+    ghost output = { λ lots. Some (decimal lots.0) };
+
+    fn fmt<W: fmt::Write>(&self, f: &mut fmt::Formatter<W>) -> fmt::Result {
+        let Lots(count) = self;
+        write!(f, "{count}")
+    }
+}
+
+// the number in decimal
+impl fmt::Display for Money {
+    ghost use Rattle.std.specs.Prelude.{Some, decimal};
+
+    ghost output = { λ money. Some (decimal money.0) };
+
+    fn fmt<W: fmt::Write>(&self, f: &mut fmt::Formatter<W>) -> fmt::Result {
+        let Money(amount) = self;
+        write!(f, "{amount}")
+    }
 }
