@@ -6,7 +6,7 @@ use units::{Lots, Money};
 
 /// What one participant holds. Blocked amounts cover waiting orders; free ones are at the participant's hand.
 // Four figures, and not two `Holdings`: the market's rules and the contracts of all layers above name each figure.
-#[derive(Clone, Copy, PartialEq, Eq)]
+#[derive(Clone, Copy, PartialEq, Eq, Default)]
 pub struct Account {
     pub free_lots: Lots,
     pub blocked_lots: Lots,

@@ -11,7 +11,7 @@ use super::fault::DepositoryFault;
 use units::{Lots, Money};
 
 /// So many lots and so much money.
-#[derive(Clone, Copy, PartialEq, Eq)]
+#[derive(Clone, Copy, PartialEq, Eq, Default)]
 pub struct Holdings {
     pub lots: Lots,
     pub money: Money,
@@ -70,10 +70,7 @@ pub fn held_in_all<B: AccountBook>(book: &B) -> Holdings
     ensures lots { result.lots.0 ≡ in_all lots_held (B.AccountBook.accounts book.now) }
     ensures money { result.money.0 ≡ in_all money_held (B.AccountBook.accounts book.now) }
 {
-    let mut held = Holdings {
-        lots: Lots(0),
-        money: Money(0),
-    };
+    let mut held = Holdings::default();
     for account in EachAccount::of(book) {
         held.lots.0 += account.free_lots.0 + account.blocked_lots.0;
         held.money.0 += account.free_money.0 + account.blocked_money.0;
