@@ -48,8 +48,8 @@ impl Delivery {
     }
 
     /// Lots one way, money the other way.
-    // That both are known is a fact of the caller's test, here and in `hand_over`: a checked participant, a type of its own,
-    // would be asked of the trait's callers.
+    // That both are known follows from the caller's test, here and in `hand_over`: a checked participant, a type of its own,
+    // would be asked of the trait's callers, or tested a second time.
     fn move_both<S: AccountStore>(self, store: &mut S)
         requires seller_known { is_participant self.seller ≡ true }
         requires buyer_known { is_participant self.buyer ≡ true }

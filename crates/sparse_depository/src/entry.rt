@@ -6,7 +6,7 @@ use ordered_list::Ranked;
 use units::Participant;
 
 /// The account that the sparse depository keeps of one participant.
-#[derive(Clone, Copy)]
+#[derive(Clone, Copy, Default)]
 pub(crate) struct AccountEntry {
     pub(crate) who: Participant,
     pub(crate) account: Account,

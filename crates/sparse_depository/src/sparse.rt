@@ -3,15 +3,12 @@ ghost use Rattle.depository.specs.Accounts.{empty, Within};
 ghost use Rattle.sparse_depository.specs.Entries.{accounts_of, rising, all_hold};
 
 use super::entry::AccountEntry;
-use depository::Account;
-use units::Participant;
 
 /// The accounts of those who hold something, in the order of their participants' numbers.
 ///
 /// The memory has a place for each of the 64 participants, so it never runs out.
-// Memory with a count, and no heap: the engine's memory is fixed. Ghost fields, and no model: the laws of a book hold of each
-// value of its type, and a model that forgets the memory behind the entries, as that of `OrderedArray` does, would take `Copy`
-// from it.
+// Memory with a count, and no `OrderedArray`. Ghost fields, and no model: the laws of a book hold of each value of its type,
+// and a model that forgets the memory behind the entries, as that of `OrderedArray` does, would take `Copy` from it.
 #[derive(Clone, Copy)]
 pub struct SparseDepository {
     pub(crate) entries: [AccountEntry; 64],
@@ -24,18 +21,16 @@ pub struct SparseDepository {
 }
 
 impl SparseDepository {
+    ghost use Rattle.sparse_depository.specs.Book.{accounts_in};
+
     /// Nobody holds anything, so there is no entry.
     #[tactic(auto, using(crate::specs::EntriesLemmas::no_entries, crate::specs::EntriesLemmas::within_none))]
     pub fn new() -> SparseDepository
-        ensures accounts { accounts_of (take result.count result.entries) ≡ replicate 64 empty }
+        ensures accounts { accounts_in result ≡ replicate 64 empty }
         ensures none { result.count ≡ 0 }
     {
-        let unused = AccountEntry {
-            who: Participant(0),
-            account: Account::EMPTY,
-        };
         SparseDepository {
-            entries: [unused; 64],
+            entries: [AccountEntry::default(); 64],
             count: 0,
         }
     }

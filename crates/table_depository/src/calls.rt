@@ -13,7 +13,8 @@ impl AccountBook for TableDepository {
 
     ghost within = { λ t. t.within };
 
-    // the test stands in both stores: in one place it would need a second method, with a precondition
+    // The test stands in both stores, as the decision in `apply` does, before one write into memory of its own: in one place
+    // it would need a second method, with a precondition.
     fn balances(&self, who: Participant) -> Result<Account, DepositoryFault> {
         if who.is_known() {
             Ok(self.accounts[place(who)])
@@ -32,6 +33,8 @@ impl AccountStore for TableDepository {
 }
 
 /// Where the account of a participant stands.
+// That the participant is known follows from the caller's test: a checked participant, a type of its own, would be asked of
+// the trait's callers, or tested a second time.
 fn place(who: Participant) -> usize
     requires { is_participant who ≡ true }
     ensures { result ≡ who.0 - 1 }
