@@ -32,7 +32,9 @@ impl SharingRule for ByTime {
 }
 
 // Not one function with pro rata's `hand_out`: that adds to the shares and this overwrites them, so that it would need a
-// pass of its own, as long as this one, to clear them first.
+// pass of its own, as long as this one, to clear them first. Nor one function for all three loops, given a closure
+// `FnMut(Share) -> Lots` that carries what is left: it could promise a chain of the closure's steps, and each caller would
+// have to work the shares out of that chain, for a loop of one line.
 fn fill_by_time(lines: &mut [Share], total: Lots)
     ensures { lines.new ≡ filled lines.old (by_time (lots_of lines.old) total.0) }
 {
