@@ -5,11 +5,12 @@ use Rattle.units.specs.declared.quantity.Price.{Price}
 use Rattle.units.specs.declared.quantity.Lots.{Lots}
 use Rattle.units.specs.declared.side.Side.{Side}
 use Rattle.units.specs.declared.side.Side.TheVariants.{Sell, Buy}
+use Rattle.depository.specs.declared.amount.Amount.TheVariants as amounts
 use Rattle.market.specs.declared.order.NewOrder.{NewOrder}
 use Rattle.command.specs.Operands.{as_participant, as_order_number, as_price, as_lots, as_money}
 use Rattle.command.specs.RuleNumbers.{rule_of}
 use Rattle.command.specs.declared.command.Command.{Command}
-use Rattle.command.specs.declared.command.Command.TheVariants.{PayInLots, PayInMoney, Open, Submit, Withdraw, Strike, Add, Deal, Annul, Close}
+use Rattle.command.specs.declared.command.Command.TheVariants.{PayIn, Open, Submit, Withdraw, Strike, Add, Deal, Annul, Close}
 
 -- a command's byte, the widths of its operands in bytes, and the command that its operands make, which are given as numbers
 pub record Row : Type 0 where
@@ -30,8 +31,8 @@ at operands i = slice_index operands i
 -- the twelve commands
 abbrev pub table : List Row
 table =
-    row 0x01 (2 ∷ 4 ∷ []) (λ ns. PayInLots (as_participant (at ns 0)) (as_lots (at ns 1)))
-    ∷ row 0x02 (2 ∷ 8 ∷ []) (λ ns. PayInMoney (as_participant (at ns 0)) (as_money (at ns 1)))
+    row 0x01 (2 ∷ 4 ∷ []) (λ ns. PayIn (as_participant (at ns 0)) (amounts.Lots (as_lots (at ns 1))))
+    ∷ row 0x02 (2 ∷ 8 ∷ []) (λ ns. PayIn (as_participant (at ns 0)) (amounts.Money (as_money (at ns 1))))
     ∷ row 0x03 [] (λ ns. Open)
     ∷ row 0x10 (2 ∷ 4 ∷ 4 ∷ []) (λ ns. Submit (order (as_participant (at ns 0)) Sell (as_price (at ns 1)) (as_lots (at ns 2))))
     ∷ row 0x11 (2 ∷ 4 ∷ 4 ∷ []) (λ ns. Submit (order (as_participant (at ns 0)) Buy (as_price (at ns 1)) (as_lots (at ns 2))))

@@ -3,20 +3,17 @@ ghost use Rattle.command.specs.Rules.{checked_of};
 
 use super::fault::TapeFault;
 use super::rule::{Rule, UnknownRule};
+use depository::Amount;
 use market::{NewOrder, OrderNumber};
-use units::{Lots, Money, Participant, Side};
+use units::{Lots, Participant, Side};
 
 /// A command of the tape with its operands.
 #[derive(Clone, Copy, Debug, PartialEq, Eq)]
 pub enum Command {
-    // two pay-ins, as the tape has two commands with operands of two widths
-    PayInLots {
+    /// A pay in of lots or of money: two commands on the tape, as their operands differ in width.
+    PayIn {
         participant: Participant,
-        lots: Lots,
-    },
-    PayInMoney {
-        participant: Participant,
-        money: Money,
+        what: Amount,
     },
     Open,
     Submit(NewOrder),

@@ -48,6 +48,7 @@ impl From<UnknownRule> for TapeFault {
 }
 
 /// What the refusal is known by outside.
+// Each layer has a table of its own numbers.
 impl From<TapeFault> for RefusalCode {
     ghost from_gives = { λ fault code. code ≡ code_of fault };
 

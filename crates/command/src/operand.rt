@@ -8,6 +8,8 @@ use market::OrderNumber;
 use units::{Lots, Money, Participant, Price};
 
 /// A quantity that stands on the tape as a number of so many bytes.
+// A trait for the one name of five conversions, each with its law. Its callers know the type from the pattern that takes the
+// bytes, and name it; a generic reader would only make the same call.
 pub(crate) trait Operand<const WIDTH: usize> {
     /// The quantity that a number stands for.
     ghost standing_for: { ℕ → Self };

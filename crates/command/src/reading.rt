@@ -7,6 +7,7 @@ use super::fault::TapeFault;
 use super::operand::Operand;
 use super::rule::Rule;
 use super::table::width_of;
+use depository::Amount;
 use market::{NewOrder, OrderNumber};
 use units::{Lots, Money, Participant, Price, Side};
 
@@ -26,6 +27,8 @@ pub fn read(tape: &[u8]) -> Result<(Command, &[u8]), TapeFault>
 }
 
 /// Takes a whole command apart.
+// Slice patterns, one for each command: the asked-for form is that each command is taken apart by a pattern with the rest of
+// the tape, so its bytes stand here as they stand on the tape.
 fn taken_apart(tape: &[u8]) -> (Command, &[u8])
     requires { (w : ℕ) × Whole w tape.now }
     ensures { Ok (result.0, result.1.now) ≡ read_one tape.now }
@@ -33,13 +36,13 @@ fn taken_apart(tape: &[u8]) -> (Command, &[u8])
     match tape {
         [0x01, ph, pl, l3, l2, l1, l0, rest @ ..] => {
             let participant = Participant::from_bytes([*ph, *pl]);
-            let lots = Lots::from_bytes([*l3, *l2, *l1, *l0]);
-            (Command::PayInLots { participant, lots }, rest)
+            let what = Amount::Lots(Lots::from_bytes([*l3, *l2, *l1, *l0]));
+            (Command::PayIn { participant, what }, rest)
         }
         [0x02, ph, pl, m7, m6, m5, m4, m3, m2, m1, m0, rest @ ..] => {
             let participant = Participant::from_bytes([*ph, *pl]);
-            let money = Money::from_bytes([*m7, *m6, *m5, *m4, *m3, *m2, *m1, *m0]);
-            (Command::PayInMoney { participant, money }, rest)
+            let what = Amount::Money(Money::from_bytes([*m7, *m6, *m5, *m4, *m3, *m2, *m1, *m0]));
+            (Command::PayIn { participant, what }, rest)
         }
         [0x03, rest @ ..] => (Command::Open, rest),
         [0x20, rest @ ..] => (Command::Strike, rest),
@@ -59,25 +62,26 @@ fn with_order(tape: &[u8]) -> (Command, &[u8])
     ensures { Ok (result.0, result.1.now) ≡ read_one tape.now }
 {
     match tape {
-        [0x10, ph, pl, c3, c2, c1, c0, l3, l2, l1, l0, rest @ ..]
-        | [0x11, ph, pl, c3, c2, c1, c0, l3, l2, l1, l0, rest @ ..] => {
-            let order = NewOrder {
-                participant: Participant::from_bytes([*ph, *pl]),
-                side: side_of(tape[0]),
-                limit: Price::from_bytes([*c3, *c2, *c1, *c0]),
-                lots: Lots::from_bytes([*l3, *l2, *l1, *l0]),
-            };
-            (Command::Submit(order), rest)
-        }
+        // by a guard: with an @ inside, the formatter sets a pattern of this length one name to a line
+        [byte, ph, pl, c3, c2, c1, c0, l3, l2, l1, l0, rest @ ..] if matches!(*byte, 0x10 | 0x11) =>
+            {
+                let order = NewOrder {
+                    participant: Participant::from_bytes([*ph, *pl]),
+                    side: side_of(*byte),
+                    limit: Price::from_bytes([*c3, *c2, *c1, *c0]),
+                    lots: Lots::from_bytes([*l3, *l2, *l1, *l0]),
+                };
+                (Command::Submit(order), rest)
+            }
         [0x12, ph, pl, o1, o0, rest @ ..] => {
             let participant = Participant::from_bytes([*ph, *pl]);
             let order = OrderNumber::from_bytes([*o1, *o0]);
             (Command::Withdraw { participant, order }, rest)
         }
-        [0x21, ph, pl, l3, l2, l1, l0, rest @ ..] | [0x22, ph, pl, l3, l2, l1, l0, rest @ ..] => {
+        [byte @ (0x21 | 0x22), ph, pl, l3, l2, l1, l0, rest @ ..] => {
             let command = Command::Add {
                 participant: Participant::from_bytes([*ph, *pl]),
-                side: side_of(tape[0]),
+                side: side_of(*byte),
                 lots: Lots::from_bytes([*l3, *l2, *l1, *l0]),
             };
             (command, rest)

@@ -4,7 +4,7 @@ ghost use Rattle.depository.specs.Amounts.{size, most_of};
 use units::{Lots, Money};
 
 /// An amount of lots or of money.
-#[derive(Clone, Copy, PartialEq, Eq)]
+#[derive(Clone, Copy, Debug, PartialEq, Eq)]
 pub enum Amount {
     Lots(Lots),
     Money(Money),

@@ -1,14 +1,12 @@
 -- What each command asks for: a pay-in, the opening, or a call of the session.
-use Rattle.depository.specs.declared.amount.Amount.TheVariants.{Lots, Money}
 use Rattle.market.specs.declared.call.Call.TheVariants as calls
 use Rattle.command.specs.declared.command.Command.{Command}
-use Rattle.command.specs.declared.command.Command.TheVariants.{PayInLots, PayInMoney, Open, Submit, Withdraw, Strike, Add, Deal, Annul, Close}
+use Rattle.command.specs.declared.command.Command.TheVariants.{PayIn, Open, Submit, Withdraw, Strike, Add, Deal, Annul, Close}
 use Rattle.tape.specs.declared.task.Task.{Task}
 use Rattle.tape.specs.declared.task.Task.TheVariants as tasks
 
 abbrev pub task_of : Command → Task
-task_of (PayInLots who lots) = tasks.PayIn who (Lots lots)
-task_of (PayInMoney who money) = tasks.PayIn who (Money money)
+task_of (PayIn who what) = tasks.PayIn who what
 task_of Open = tasks.Open
 task_of (Submit order) = tasks.Call (calls.Submit order)
 task_of (Withdraw who order) = tasks.Call (calls.Withdraw who order)

@@ -20,6 +20,7 @@ pub struct TapeAnswer {
 }
 
 /// What stands in memory that no answer uses.
+// By hand: a Result has no default.
 impl Default for TapeAnswer {
     ghost is_default = { λ answer. answer ≡ line_of 0 (Ok None) };
 

@@ -47,6 +47,7 @@ impl Desk {
         ensures after { result.1 ≡ desk_after call self }
     {
         let Desk { mut session, slip } = self;
+        // blank, overwritten by run
         let mut answers = [Err(SessionFault::WrongPhase)];
         let slip = run(&mut session, slip, &[call], &mut answers);
         (answers[0], Desk { session, slip })
@@ -57,6 +58,7 @@ impl Desk {
         ensures { result.state ≡ (annulled_and_closed self).session }
     {
         let Desk { mut session, slip } = self;
+        // blank, overwritten by run
         let mut answers = [Err(SessionFault::WrongPhase); 2];
         match run(
             &mut session,

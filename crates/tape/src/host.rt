@@ -13,7 +13,8 @@ pub enum HostFault {
     TapeTooLong,
 }
 
-/// What the refusal is known by outside. Written out: a From that a macro derives says nothing of what it gives.
+/// What the refusal is known by outside.
+// Each layer has a table of its own numbers.
 impl From<HostFault> for RefusalCode {
     ghost from_gives = { λ fault code. code ≡ code_of fault };
 

@@ -47,7 +47,6 @@ impl Line {
     }
 }
 
-// Written out: a From that a macro derives says nothing of what it gives.
 impl From<TapeAnswer> for Line {
     ghost from_gives = { λ answer line. line ≡ shown_of answer };
 

@@ -4,11 +4,14 @@ use market::{Cancellation, Deal};
 use session::Session;
 use table_depository::TableDepository;
 
+/// The most bytes that a tape may have, and so the most answers that its run comes to.
+pub(crate) const MOST_BYTES: usize = 4096;
+
 /// What the run of a tape comes to: an answer for each command, and the session that it leaves, closed.
 #[derive(Drop)]
 pub struct Played {
     // as many as a tape may have bytes: memory of a fixed size, in the value itself
-    pub(crate) answers: ArrayVec<TapeAnswer, 4096>,
+    pub(crate) answers: ArrayVec<TapeAnswer, MOST_BYTES>,
     pub(crate) session: Session<TableDepository>,
 }
 

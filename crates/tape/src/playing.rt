@@ -5,14 +5,11 @@ ghost use Rattle.tape.specs.Results.{ResultOf};
 
 use super::answer::{Done, TapeAnswer};
 use super::host::HostFault;
-use super::played::Played;
+use super::played::{MOST_BYTES, Played};
 use super::stage::Stage;
 use arrayvec::ArrayVec;
 use command::read;
 use table_depository::TableDepository;
-
-/// The most bytes that a tape may have.
-const MOST_BYTES: usize = 4096;
 
 /// Runs a tape. Refuses 61: the tape has more than 4,096 bytes.
 pub fn play(tape: &[u8]) -> Result<Played, HostFault>
@@ -28,7 +25,7 @@ pub fn play(tape: &[u8]) -> Result<Played, HostFault>
 }
 
 /// Plays a tape to its end, and writes the answer of each command. Answers how far the run has come.
-fn play_through(tape: &[u8], answers: &mut ArrayVec<TapeAnswer, 4096>) -> Stage
+fn play_through(tape: &[u8], answers: &mut ArrayVec<TapeAnswer, MOST_BYTES>) -> Stage
     requires short { length tape.now ≤ 4096 }
     requires none { answers.old.items ≡ [] }
     ensures { Plays (length tape.now) tape.now start answers.new.items (floor_of result) }

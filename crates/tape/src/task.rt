@@ -16,7 +16,6 @@ pub(crate) enum Task {
     NotYet,
 }
 
-// Written out: a From that a macro derives says nothing of what it gives.
 impl From<Command> for Task {
     ghost use Rattle.std.specs.Prelude.{◌≡◌};
     ghost use Rattle.tape.specs.Tasks.{task_of};
@@ -24,14 +23,9 @@ impl From<Command> for Task {
     ghost from_gives = { λ command task. task ≡ task_of command };
 
     fn from(command: Command) -> Task {
-        // by cases: a command is what stands on the tape
+        // a match on data: a command is what stands on the tape, and runs quantify over calls
         match command {
-            Command::PayInLots { participant, lots } => {
-                Task::PayIn(participant, Amount::Lots(lots))
-            }
-            Command::PayInMoney { participant, money } => {
-                Task::PayIn(participant, Amount::Money(money))
-            }
+            Command::PayIn { participant, what } => Task::PayIn(participant, what),
             Command::Open => Task::Open,
             Command::Submit(order) => Task::Call(Call::Submit(order)),
             Command::Withdraw { participant, order } => {
