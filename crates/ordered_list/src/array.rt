@@ -66,8 +66,8 @@ impl<T: Ranked + Copy + Default, const N: usize> OrderedArray<T, N> {
     }
 }
 
-/// Puts a line among the first `len` lines of the memory. A function of its own over a slice: tried in `insert`, and of an
-/// array `[T; N]` that a list was put over the proof knows nothing afterwards.
+/// Puts a line among the first `len` lines of the memory. A function of its own over a slice: tried in `insert`, and the
+/// proof knows nothing of an array `[T; N]` that a list was put over.
 fn insert_among<T: Ranked + Copy>(
     memory: &mut [T],
     len: &mut usize,
