@@ -16,6 +16,8 @@ pub enum DepositoryFault {
     PastTotal,
 }
 
+/// What the refusal is known by outside.
+// Each layer has a table of its own: the numbers are all that these impls say.
 impl From<DepositoryFault> for RefusalCode {
     ghost from_gives = { λ fault code. code ≡ code_of fault };
 

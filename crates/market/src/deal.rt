@@ -20,7 +20,6 @@ pub struct Cancellation {
     pub lots: Lots,
 }
 
-// written out, so that what it gives stands in `from_gives`
 impl From<Resting> for Cancellation {
     ghost use Rattle.market.specs.Calls.{cancellation_of};
 

@@ -42,6 +42,7 @@ impl From<DepositoryFault> for SessionFault {
 }
 
 /// What the refusal is known by outside.
+// Each layer has a table of its own: the numbers are all that these impls say.
 impl From<SessionFault> for RefusalCode {
     ghost from_gives = { λ fault code. code ≡ code_of fault };
 

@@ -42,6 +42,19 @@ impl NewOrder {
             Side::Buy => other <= self.limit,
         }
     }
+
+    /// The record that it has once it is accepted under this number.
+    pub fn numbered(self, number: OrderNumber) -> Order
+        ensures { result ≡ record { number = number; participant = self.participant; side = self.side; limit = self.limit; accepted = self.lots } }
+    {
+        Order {
+            number,
+            participant: self.participant,
+            side: self.side,
+            limit: self.limit,
+            accepted: self.lots,
+        }
+    }
 }
 
 /// The record of an accepted order. It stays for good.

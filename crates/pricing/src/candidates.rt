@@ -9,7 +9,7 @@ use super::span::Span;
 use units::{Lots, Price};
 
 /// The last and the highest price of the lines with the greatest volume and, of these, the least imbalance. The last is the
-/// lowest where the lines go price downward.
+/// lowest where the lines go price downward. The definition says 0 where there is none.
 pub(crate) fn candidates(lines: &[Line]) -> Span
     ensures low { result.low.0 ≡ unwrap_or (last_or None (map price_of (candidate_lines lines.now))) 0 }
     ensures high { result.high.0 ≡ highest (map price_of (candidate_lines lines.now)) }
@@ -33,7 +33,7 @@ pub(crate) fn candidates(lines: &[Line]) -> Span
     }
 }
 
-/// The greatest volume of the lines.
+/// The greatest volume of the lines: 0, as the definition says, where there is none.
 fn greatest_volume(lines: &[Line]) -> Lots
     ensures { result.0 ≡ highest (map volume_of lines.now) }
 {
@@ -44,7 +44,7 @@ fn greatest_volume(lines: &[Line]) -> Lots
         .unwrap_or_default()
 }
 
-/// The least imbalance of the lines with this volume.
+/// The least imbalance of the lines with this volume: the most, as the definition says, where there is none.
 fn least_imbalance(lines: &[Line], volume: Lots) -> Lots
     ensures { result.0 ≡ least_imbalance volume.0 lines.now }
 {

@@ -14,6 +14,7 @@ pub(crate) struct Level<'a> {
     pub(crate) rest: &'a [Resting],
 }
 
+// Two functions: `first_level` and `last_level` differ in the end that they cut from, and share `leading`.
 /// The orders at the front that have this limit. Lots that no u64 holds count as the most that it can.
 pub(crate) fn first_level(queue: &[Resting], limit: Price) -> Level<'_>
     ensures lots { result.lots.0 ≡ min (front_lots limit.0 queue.now) (2 ^ 64 - 1) }

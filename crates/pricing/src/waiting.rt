@@ -90,7 +90,7 @@ impl Waiting<'_> {
     fn settled_between(self, span: Span) -> Price
         ensures { Queues self.entry.sells.now self.entry.buys.now → result.0 ≡ settled_between self.entry.sells.now self.entry.buys.now span.low.0 span.high.0 }
     {
-        // Kept as a match: tried with `unwrap_or_else`, and the check no longer finds the proof alone.
+        // A match: tried with `unwrap_or_else`, and the proof didn't close.
         match span.whole_mean() {
             Some(mean) => mean,
             None => self.by_sides(span),
@@ -109,7 +109,7 @@ impl Waiting<'_> {
         }
     }
 
-    /// The limit of the lowest-numbered order at one of two limits.
+    /// The limit of the lowest-numbered order at one of two limits: 0, as the definition says, where there is none.
     fn limit_of_earliest(self, span: Span) -> Price
         ensures { result.0 ≡ limit_of_earliest (waiting_at span.low.0 span.high.0 (self.entry.sells.now ++ self.entry.buys.now)) }
     {
@@ -136,7 +136,7 @@ fn write_lines(walked: &[Line], lines: &mut [SummaryLine])
     requires { length walked.now ≤ length lines.old }
     ensures { lines.new ≡ map summary_of walked.now ++ drop (length walked.now) lines.old }
 {
-    // Kept indexed: tried with `zip`, and of what is written through a chain over `iter_mut` the proof knows nothing afterwards.
+    // By place: tried with `zip`, and the proof knows nothing of what a chain over `iter_mut` writes.
     for (i, line) in walked.iter().enumerate() {
         lines[i] = SummaryLine::from(*line);
     }

@@ -21,15 +21,13 @@ impl<D: Depository> Session<D> {
         // takes up the room that the entry had
         let slots = self.book.by_number();
         self.book.empty_queues();
+        // by slot: over a `flatten` the loop's invariant has the iterator's four parts, where the slot's place is enough
         for slot in &slots[1..=self.book.orders.len()] {
             if let Some(entry) = slot {
-                match self
-                    .depository
+                self.depository
                     .release(entry.order.participant, entry.cover())
-                {
-                    Ok(()) => self.book.note(*entry),
-                    Err(_) => unreachable(),
-                }
+                    .unwrap();
+                self.book.note(*entry);
             }
         }
         lots

@@ -21,20 +21,16 @@ impl<D: Depository> Session<D> {
         ensures kept { Kept (session_in result).state }
         ensures calls_keep { CallsKeep }
     {
-        if nothing_blocked(&depository) {
-            Ok(Session {
-                depository,
-                phase: Phase::Gathering,
-                book: Book::new(),
-            })
-        } else {
-            let closed = Session {
-                depository,
-                phase: Phase::Closed,
-                book: Book::new(),
-            };
-            Err((SessionFault::SomethingBlocked, closed))
+        let mut session = Session {
+            depository,
+            phase: Phase::Closed,
+            book: Book::new(),
+        };
+        if !nothing_blocked(&session.depository) {
+            return Err((SessionFault::SomethingBlocked, session));
         }
+        session.phase = Phase::Gathering;
+        Ok(session)
     }
 }
 

@@ -36,6 +36,7 @@ pub fn run<D: Depository>(
     held
 }
 
+// The slip is handed on by value here and below: a struct of session and slip would be taken apart at each call.
 /// One call, whichever it is.
 fn step<D: Depository>(
     session: &mut Session<D>,

@@ -36,13 +36,7 @@ impl<D: Depository> Session<D> {
         if self.is_in_the_way(order) {
             return Err(SessionFault::OwnOrderInTheWay);
         }
-        Ok(Order {
-            number: OrderNumber(self.book.orders.len() as u16 + 1),
-            participant: order.participant,
-            side: order.side,
-            limit: order.limit,
-            accepted: order.lots,
-        })
+        Ok(order.numbered(OrderNumber(self.book.orders.len() as u16 + 1)))
     }
 
     /// Whether an own waiting order on the other side meets the limit.

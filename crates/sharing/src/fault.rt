@@ -12,6 +12,7 @@ pub enum SharingFault {
 }
 
 /// What the refusal is known by outside.
+// Each layer has a table of its own: the numbers are all that these impls say.
 impl From<SharingFault> for RefusalCode {
     ghost use Rattle.std.specs.Prelude.{◌≡◌};
     ghost use Rattle.sharing.specs.Refusals.{code_of};

@@ -1,5 +1,4 @@
-use Rattle.std.proofs.Common.{◌≡◌, ◌+◌, ◌-◌, length, take, drop, Some, None, sym, refl, ap, ◌∙◌, subst, arith}
-use Rattle.units.proofs.Checks.{ok_not_err}
+use Rattle.std.proofs.Common.{◌≡◌, ◌+◌, ◌-◌, length, take, drop, is_ok, Some, None, sym, refl, ap, ◌∙◌, subst, arith}
 use Rattle.depository.specs.Calls.{release_answer, release_after}
 use Rattle.market.specs.Calls.{all_annulled}
 use Rattle.market.specs.Law.{Kept}
@@ -9,7 +8,7 @@ use Rattle.session.proofs.Keeping.{kept_all}
 use Rattle.session.proofs.Slotting.{filled_more}
 use Rattle.session.proofs.session.Session.annul_all.Given as given
 use Rattle.session.proofs.session.Session.annul_all.Goals as goal
-use Rattle.session.proofs.session.Session.annul_all.Goals.{After-len, After-loop-slot, in-Some+in-Ok, in_default}
+use Rattle.session.proofs.session.Session.annul_all.Goals.{After-len, After-loop-slot, in-Some, in_default}
 
 -- the slots that the loop goes through
 slots_are : (g : given.Over) (c : After-len g) → take (c.len.result + 1 - 1) (drop 1 c.by_number-slots.result) ≡ order_slots c.args.self.now.state
@@ -36,17 +35,17 @@ note-requires g c =
     let inv = c.loop-slot.invariant in
     omega (arith, ap length inv.sells, ap length inv.buys, inv.room, filled_more _ c.loop-slot.slot-index (Some c.in-Some.entry) c.loop-slot-test.true c.in-Some.is)
 
--- the cover of what waited is there, so its release is never refused
-pub unreachable-requires : goal.unreachable-requires
-unreachable-requires g c =
+-- the cover of what waited is there, so its release is not refused
+pub unwrap-requires : goal.unwrap-requires
+unwrap-requires g c =
     let s = c.args.self.now.state in
     let x = c.loop-slot.self-inside in
     let t = state_of x.phase x.book (g.D.AccountBook.accounts x.depository) in
     let i = c.loop-slot.slot-index in
     let e = c.in-Some.entry in
-    let found = slot_found s _ i (Some e) c.requires (slots_are g (goal.at.unreachable-requires g c).After-len) c.loop-slot-test.true c.in-Some.is in
+    let found = slot_found s _ i (Some e) c.requires (slots_are g (goal.at.unwrap-requires g c).After-len) c.loop-slot-test.true c.in-Some.is in
     let answer = c.release.ensures.answer ∙ ap (release_answer t.accounts e.order.participant) c.cover.ensures ∙ cleared_passes i s t e c.requires c.loop-slot.invariant.annulled_so_far found.0 in
-    ok_not_err c.release.result tt c.in-Err.field-0 answer c.in-Err.is
+    ap is_ok answer
 
 pub loop-slot-preserved : goal.loop-slot-preserved
 loop-slot-preserved g c =
@@ -60,7 +59,7 @@ loop-slot-preserved g c =
     let are : slots ≡ order_slots s = slots_are g (goal.at.loop-slot-preserved g c).After-len in
     let low = c.loop-slot-test.true in
     elim c.match-slot.branch [
-      | in-Some+in-Ok w ↦
+      | in-Some w ↦
           let e = w.in-Some.entry in
           let n = w.note.ensures in
           let found = slot_found s slots i (Some e) c.requires are low w.in-Some.is in
