@@ -3,7 +3,7 @@ use depository::{AccountBook, Amount, BackOffice, Delivery, Depository, held_in_
 use sparse_depository::SparseDepository;
 use std::process::Abort;
 use table_depository::TableDepository;
-use units::{Lots, Money, Participant};
+use units::{Lots, Money, Participant, RefusalCode};
 
 fn lots(n: u64) -> Amount {
     Amount::Lots(Lots(n))
@@ -22,7 +22,7 @@ fn delivery(seller: Participant, buyer: Participant, lots: u64, money: u128) -> 
     }
 }
 
-/// Free lots, blocked lots, free money, blocked money; all 31 where the participant is refused.
+/// Free lots, blocked lots, free money, blocked money; or, where that is refused, the refusal's number four times.
 // Numbers, and no `Account`s, so that the rows that are wanted stand side by side.
 fn amounts<B: AccountBook>(book: &B, who: u16) -> [u128; 4] {
     match book.balances(Participant(who)) {
@@ -32,7 +32,7 @@ fn amounts<B: AccountBook>(book: &B, who: u16) -> [u128; 4] {
             a.free_money.0,
             a.blocked_money.0,
         ],
-        Err(_) => [31; 4],
+        Err(fault) => [u128::from(RefusalCode::from(fault).number); 4],
     }
 }
 
@@ -150,22 +150,25 @@ fn one_at_both_ends<D: BackOffice>(rt: &impl Abort, d: &mut D) {
     assert_eq!(rt; amounts(d, 9), [4, 6, 350, 700]);
 }
 
+/// Each case over a depository of its own.
+fn all_cases<D: BackOffice + Drop, New: Fn() -> D>(rt: &impl Abort, new: New)
+    requires { New.IsAlwaysCallable new }
+{
+    participants(rt, &mut new());
+    totals(rt, &mut new());
+    free_and_blocked(rt, &mut new());
+    deliveries(rt, &mut new());
+    one_at_both_ends(rt, &mut new());
+}
+
 #[test]
 fn the_table(rt: HostRuntime) {
-    participants(&rt, &mut TableDepository::new());
-    totals(&rt, &mut TableDepository::new());
-    free_and_blocked(&rt, &mut TableDepository::new());
-    deliveries(&rt, &mut TableDepository::new());
-    one_at_both_ends(&rt, &mut TableDepository::new());
+    all_cases(&rt, TableDepository::new);
 }
 
 #[test]
 fn the_sparse_depository(rt: HostRuntime) {
-    participants(&rt, &mut SparseDepository::new());
-    totals(&rt, &mut SparseDepository::new());
-    free_and_blocked(&rt, &mut SparseDepository::new());
-    deliveries(&rt, &mut SparseDepository::new());
-    one_at_both_ends(&rt, &mut SparseDepository::new());
+    all_cases(&rt, SparseDepository::new);
 }
 
 /// How many entries there are after a call.

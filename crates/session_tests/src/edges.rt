@@ -1,19 +1,15 @@
 //! Refusals at their edges, opening and handing back.
 
-use super::orders::order;
+use super::orders::{number_of, order};
 use depository::{Amount, BackOffice, Depository};
-use market::{OrderNumber, SessionFault};
+use market::OrderNumber;
 use session::Session;
 use std::test::Fail;
 use table_depository::TableDepository;
-use units::{Lots, Money, Participant, RefusalCode, Side};
-
-/// What the rules know a refusal by.
-fn number_of(fault: SessionFault) -> u8 {
-    RefusalCode::from(fault).number
-}
+use units::{Lots, Money, Participant, Side};
 
 /// The number of the refusal, or 0.
+// Numbers, and no faults, in the rows below: the rules know a refusal by its number.
 fn sell(session: &mut Session<TableDepository>, who: u16, limit: u32, lots: u64) -> u8 {
     match session.submit(order(who, Side::Sell, limit, lots)) {
         Ok(_) => 0,
@@ -65,10 +61,8 @@ fn checks_come_in_their_order(rt: HostRuntime) -> Result<(), Fail> {
 fn a_buy_meets_the_own_sell_from_its_limit_on(rt: HostRuntime) -> Result<(), Fail> {
     let mut session = opened()?;
     assert_eq!(rt; sell(&mut session, 1, 100, 5), 0);
-    match session.submit(order(1, Side::Buy, 100, 1)) {
-        Ok(_) => return Err(Fail::new("met its own sell")),
-        Err(fault) => assert_eq!(rt; number_of(fault), 15),
-    }
+    let met = session.submit(order(1, Side::Buy, 100, 1));
+    assert_eq!(rt; met.map_err(number_of), Err(15));
     assert_eq!(rt;
         session.submit(order(1, Side::Buy, 99, 1)),
         Ok(OrderNumber(2))

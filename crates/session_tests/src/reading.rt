@@ -1,13 +1,12 @@
 //! Best and summary of sells 100 x 40, 102 x 30 and buys 103 x 50, 101 x 30.
 
-use super::orders::order;
+use super::orders::{number_of, order};
 use depository::{Amount, BackOffice};
-use market::SummaryLine;
+use market::{SessionFault, SummaryLine};
 use session::Session;
 use sparse_depository::SparseDepository;
-use std::process::Abort;
 use std::test::Fail;
-use units::{Lots, Money, Participant, Price, RefusalCode, Side};
+use units::{Lots, Money, Participant, Price, Side};
 
 const MARK: SummaryLine = SummaryLine {
     price: Price(7),
@@ -31,12 +30,14 @@ fn four_orders() -> Result<Session<SparseDepository>, Fail> {
     Ok(session)
 }
 
-fn check_line(rt: &impl Abort, line: SummaryLine, price: u32, supply: u64, demand: u64) {
-    assert_eq!(rt; line.price.0, price);
-    assert_eq!(rt; line.supply.0, supply);
-    assert_eq!(rt; line.demand.0, demand);
-    assert_eq!(rt; line.volume.0, supply.min(demand));
-    assert_eq!(rt; line.difference, i128::from(supply) - i128::from(demand));
+fn line(price: u32, supply: u64, demand: u64) -> SummaryLine {
+    SummaryLine {
+        price: Price(price),
+        supply: Lots(supply),
+        demand: Lots(demand),
+        volume: Lots(supply.min(demand)),
+        difference: i128::from(supply) - i128::from(demand),
+    }
 }
 
 #[test]
@@ -51,15 +52,17 @@ fn the_best_limits(rt: HostRuntime) -> Result<(), Fail> {
 fn the_summary_leaves_what_lies_behind(rt: HostRuntime) -> Result<(), Fail> {
     let session = four_orders()?;
     let mut lines = [MARK; 5];
-    match session.summary(&mut lines) {
-        Ok(count) => assert_eq!(rt; count, 4),
-        Err(_) => return Err(Fail::new("refused")),
-    }
-    check_line(&rt, lines[0], 103, 70, 50);
-    check_line(&rt, lines[1], 102, 70, 50);
-    check_line(&rt, lines[2], 101, 40, 80);
-    check_line(&rt, lines[3], 100, 40, 80);
-    assert_eq!(rt; lines[4].price.0, 7);
+    assert_eq!(rt; session.summary(&mut lines), Ok(4));
+    assert_eq!(rt;
+        lines,
+        [
+            line(103, 70, 50),
+            line(102, 70, 50),
+            line(101, 40, 80),
+            line(100, 40, 80),
+            MARK
+        ]
+    );
     Ok(())
 }
 
@@ -67,11 +70,9 @@ fn the_summary_leaves_what_lies_behind(rt: HostRuntime) -> Result<(), Fail> {
 fn a_slice_one_line_too_short_is_left_alone(rt: HostRuntime) -> Result<(), Fail> {
     let session = four_orders()?;
     let mut lines = [MARK; 3];
-    match session.summary(&mut lines) {
-        Ok(_) => return Err(Fail::new("written into three lines")),
-        Err(fault) => assert_eq!(rt; RefusalCode::from(fault).number, 23),
-    }
-    assert_eq!(rt; lines[0].price.0, 7);
-    assert_eq!(rt; lines[2].demand.0, 7);
+    let answer = session.summary(&mut lines);
+    assert_eq!(rt; answer, Err(SessionFault::SliceTooShort));
+    assert_eq!(rt; answer.map_err(number_of), Err(23));
+    assert_eq!(rt; lines, [MARK; 3]);
     Ok(())
 }
