@@ -5,7 +5,7 @@ use ordered_list::Ranked;
 use units::{Lots, Money, Participant, Price};
 
 /// A buy order of the level.
-#[derive(Clone, Copy)]
+#[derive(Clone, Copy, Default)]
 pub(crate) struct Bid {
     pub(crate) number: u16,
     pub(crate) who: Participant,

@@ -6,7 +6,6 @@
 mod award;
 mod bid;
 mod fault;
-mod queue;
 mod scene;
 
 use fault::AllotmentFault;

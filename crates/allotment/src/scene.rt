@@ -1,8 +1,8 @@
 use super::award::Award;
 use super::bid::Bid;
 use super::fault::AllotmentFault;
-use super::queue::queue;
 use depository::{Account, AccountBook, Amount, BackOffice, Depository};
+use ordered_list::OrderedArray;
 use sharing::{Share, SharingRule};
 use units::{Lots, Money, Participant, Price};
 
@@ -33,10 +33,8 @@ pub(crate) fn carry_out<R: SharingRule, D: BackOffice>(
     for bid in level {
         block(rt, depository, bid)?;
     }
-    let lines = share(rt, rule, level)?;
-    for (bid, line) in level.into_iter().zip(lines) {
-        let share = line.share;
-        deal(rt, depository, Award { bid, share })?;
+    for award in share(rt, rule, level)? {
+        deal(rt, depository, award)?;
     }
     balances(rt, depository)
 }
@@ -48,10 +46,9 @@ fn pay_in<D: BackOffice>(
     what: Amount,
 ) -> Result<(), AllotmentFault> {
     depository.pay_in(who, what)?;
-    let Participant(who) = who;
     match what {
-        Amount::Lots(Lots(n)) => println!(rt; "  {who} pays in {n} lots")?,
-        Amount::Money(Money(n)) => println!(rt; "  {who} pays in {n} money")?,
+        Amount::Lots(Lots(n)) => println!(rt; "  {} pays in {n} lots", who.0)?,
+        Amount::Money(Money(n)) => println!(rt; "  {} pays in {n} money", who.0)?,
     }
     Ok(())
 }
@@ -73,12 +70,11 @@ fn bid(number: u16, who: u16, lots: u64) -> Bid {
 
 /// The level's bids in queue order, whatever order they are handed in.
 fn level() -> Result<[Bid; 3], AllotmentFault> {
-    let mut memory = [bid(0, 0, 0); 3];
-    let mut len = 0;
+    let mut queue: OrderedArray<Bid, 3> = OrderedArray::new();
     for bid in [bid(3, 4, 20), bid(1, 2, 50), bid(2, 3, 30)] {
-        len = queue(&mut memory, len, bid)?;
+        queue.insert(bid)?;
     }
-    Ok(memory)
+    Ok([queue.remove(0)?, queue.remove(0)?, queue.remove(0)?])
 }
 
 fn block<D: Depository>(
@@ -88,11 +84,13 @@ fn block<D: Depository>(
 ) -> Result<(), AllotmentFault> {
     let cover = bid.cover();
     depository.block(bid.who, Amount::Money(cover))?;
-    let Participant(who) = bid.who;
-    let Lots(lots) = bid.lots;
-    let Price(limit) = bid.limit;
-    let Money(cover) = cover;
-    println!(rt; "  {who} bids for {lots} lots at {limit}: {cover} money blocked")?;
+    println!(rt;
+        "  {who} bids for {lots} lots at {limit}: {cover} money blocked",
+        who = bid.who.0,
+        lots = bid.lots.0,
+        limit = bid.limit.0,
+        cover = cover.0
+    )?;
     Ok(())
 }
 
@@ -104,16 +102,26 @@ fn line(bid: Bid) -> Share {
     }
 }
 
+fn award(bid: Bid, share: Lots) -> Award {
+    Award { bid, share }
+}
+
+/// The bids with what the rule gives each of them.
 fn share<R: SharingRule>(
     rt: &impl Print,
     rule: &R,
     level: [Bid; 3],
-) -> Result<[Share; 3], AllotmentFault> {
+) -> Result<[Award; 3], AllotmentFault> {
     let mut lines = level.map(line);
     rule.share(&mut lines, OFFERED)?;
-    let [a, b, c] = lines.map(|line| line.share.0);
-    println!(rt; "  33 lots are shared out: {a} of 50, {b} of 30, {c} of 20")?;
-    Ok(lines)
+    let [a, b, c] = lines.map(|line| line.share);
+    println!(rt;
+        "  33 lots are shared out: {} of 50, {} of 30, {} of 20",
+        a.0, b.0, c.0
+    )?;
+    // By place: arrays have no `zip`, and that of their iterators gives no array.
+    let [first, second, third] = level;
+    Ok([award(first, a), award(second, b), award(third, c)])
 }
 
 fn deal<D: Depository>(
@@ -122,13 +130,13 @@ fn deal<D: Depository>(
     award: Award,
 ) -> Result<(), AllotmentFault> {
     award.settle(depository, SELLER, PRICE)?;
-    let Participant(who) = award.bid.who;
-    let Lots(lots) = award.share;
-    let Money(money) = PRICE.times(award.share);
-    let Money(saving) = award.saved(PRICE);
-    let Money(rest) = award.left_over();
     println!(rt;
-        "  {who} gets {lots} lots from 1 for {money}; {saving} saved and {rest} not needed are released"
+        "  {who} gets {lots} lots from 1 for {money}; {saving} saved and {rest} not needed are released",
+        who = award.bid.who.0,
+        lots = award.share.0,
+        money = PRICE.times(award.share).0,
+        saving = award.saved(PRICE).0,
+        rest = award.left_over().0
     )?;
     Ok(())
 }
@@ -148,12 +156,12 @@ fn balance<D: Depository>(
     who: u16,
 ) -> Result<Account, AllotmentFault> {
     let account = depository.balances(Participant(who))?;
-    let Lots(free_lots) = account.free_lots;
-    let Lots(blocked_lots) = account.blocked_lots;
-    let Money(free_money) = account.free_money;
-    let Money(blocked_money) = account.blocked_money;
     println!(rt;
-        "  {who:>11}  {free_lots:>9}  {blocked_lots:>12}  {free_money:>10}  {blocked_money:>13}"
+        "  {who:>11}  {free_lots:>9}  {blocked_lots:>12}  {free_money:>10}  {blocked_money:>13}",
+        free_lots = account.free_lots.0,
+        blocked_lots = account.blocked_lots.0,
+        free_money = account.free_money.0,
+        blocked_money = account.blocked_money.0
     )?;
     Ok(account)
 }

@@ -14,6 +14,8 @@ mod tests {
     use std::test::Fail;
     use tape::play;
 
+    // The match is `hall`'s own, written out here as well: it is what the program does with a tape, and a program lends no
+    // function to tests.
     fn run(rt: &(impl Abort + AllocGlobal), cases: &[Case]) -> Result<(), Fail> {
         for case in cases {
             let text = match play(case.tape) {
