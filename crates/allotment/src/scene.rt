@@ -15,6 +15,7 @@ const PRICE: Price = Price(100);
 const LIMIT: Price = Price(103);
 
 /// The whole allotment by one rule over one depository. Answers the four participants' balances at the end.
+// `rt` and the depository stay two parameters, here and below: the one prints, the other is what is tried.
 pub(crate) fn carry_out<R: SharingRule, D: BackOffice>(
     rt: &impl Print,
     rule_name: &str,

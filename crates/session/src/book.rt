@@ -48,6 +48,7 @@ impl Book {
     }
 
     /// Records an order, all of which waits.
+    // That an order is no larger (`sized`) is a fact of what `admit` checked: a type for it would be `Lots` once more.
     pub(crate) fn enter(&mut self, order: Order)
         requires room { array_vec_len self.old.orders < 512 }
         requires sized { order.accepted.0 ≤ 1000000 }
