@@ -1,5 +1,7 @@
-ghost use Rattle.std.specs.Prelude.{◌≡◌, ◌≤◌, drop};
+ghost use Rattle.std.specs.Prelude.{◌≡◌, ◌≤◌, true, drop};
 ghost use Rattle.std.specs.Iterator.{YieldsFirst, item_count};
+ghost use Rattle.units.specs.Ranges.{is_participant};
+ghost use Rattle.depository.specs.Accounts.{of};
 
 use super::account::Account;
 use super::book::AccountBook;
@@ -29,8 +31,19 @@ impl<'a, B: AccountBook> Iterator for EachAccount<'a, B> {
     ghost remaining = { item_count (λ s. drop s.passed (B.AccountBook.accounts s.book.now)) };
 
     fn next(&mut self) -> Option<Account> {
-        let account = self.book.balances(Participant(self.passed + 1)).ok()?;
+        if self.passed >= Participant::LAST {
+            return None;
+        }
+        let account = account_of(self.book, Participant(self.passed + 1));
         self.passed += 1;
         Some(account)
     }
+}
+
+/// The account of a participant that there is. Nobody else's is asked for: a book sees what it is asked.
+fn account_of<B: AccountBook>(book: &B, who: Participant) -> Account
+    requires { is_participant who ≡ true }
+    ensures { result ≡ of (B.AccountBook.accounts book.now) who }
+{
+    book.balances(who).unwrap()
 }
