@@ -5,9 +5,20 @@ pub enum Rule {
     ProRata,
 }
 
-/// A number that is no rule's.
+/// A number that is no rule's: reading a rule's number alone makes one.
 #[derive(Clone, Copy, Debug, PartialEq, Eq)]
-pub struct UnknownRule(pub u8);
+pub struct UnknownRule(u8);
+
+impl UnknownRule {
+    ghost use Rattle.std.specs.Prelude.{◌≡◌};
+
+    /// The number.
+    pub fn number(self) -> u8
+        ensures { result ≡ self.0 }
+    {
+        self.0
+    }
+}
 
 impl TryFrom<u8> for Rule {
     ghost use Rattle.std.specs.Prelude.{◌≡◌};
