@@ -6,6 +6,7 @@
 mod award;
 mod bid;
 mod fault;
+mod queue;
 mod scene;
 
 use fault::AllotmentFault;

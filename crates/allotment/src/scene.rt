@@ -1,8 +1,8 @@
 use super::award::Award;
 use super::bid::Bid;
 use super::fault::AllotmentFault;
+use super::queue::queued;
 use depository::{Account, AccountBook, Amount, BackOffice, Depository};
-use ordered_list::OrderedArray;
 use sharing::{Share, SharingRule};
 use units::{Lots, Money, Participant, Price};
 
@@ -48,8 +48,8 @@ fn pay_in<D: BackOffice>(
 ) -> Result<(), AllotmentFault> {
     depository.pay_in(who, what)?;
     match what {
-        Amount::Lots(Lots(n)) => println!(rt; "  {} pays in {n} lots", who.0)?,
-        Amount::Money(Money(n)) => println!(rt; "  {} pays in {n} money", who.0)?,
+        Amount::Lots(lots) => println!(rt; "  {who} pays in {lots} lots")?,
+        Amount::Money(money) => println!(rt; "  {who} pays in {money} money")?,
     }
     Ok(())
 }
@@ -71,11 +71,7 @@ fn bid(number: u16, who: u16, lots: u64) -> Bid {
 
 /// The level's bids in queue order, whatever order they are handed in.
 fn level() -> Result<[Bid; 3], AllotmentFault> {
-    let mut queue: OrderedArray<Bid, 3> = OrderedArray::new();
-    for bid in [bid(3, 4, 20), bid(1, 2, 50), bid(2, 3, 30)] {
-        queue.insert(bid)?;
-    }
-    Ok([queue.remove(0)?, queue.remove(0)?, queue.remove(0)?])
+    Ok(queued(bid(3, 4, 20), bid(1, 2, 50), bid(2, 3, 30))?)
 }
 
 fn block<D: Depository>(
@@ -87,10 +83,9 @@ fn block<D: Depository>(
     depository.block(bid.who, Amount::Money(cover))?;
     println!(rt;
         "  {who} bids for {lots} lots at {limit}: {cover} money blocked",
-        who = bid.who.0,
-        lots = bid.lots.0,
-        limit = bid.limit.0,
-        cover = cover.0
+        who = bid.who,
+        lots = bid.lots,
+        limit = bid.limit
     )?;
     Ok(())
 }
@@ -116,10 +111,7 @@ fn share<R: SharingRule>(
     let mut lines = level.map(line);
     rule.share(&mut lines, OFFERED)?;
     let [a, b, c] = lines.map(|line| line.share);
-    println!(rt;
-        "  33 lots are shared out: {} of 50, {} of 30, {} of 20",
-        a.0, b.0, c.0
-    )?;
+    println!(rt; "  33 lots are shared out: {a} of 50, {b} of 30, {c} of 20")?;
     // By place: arrays have no `zip`, and that of their iterators gives no array.
     let [first, second, third] = level;
     Ok([award(first, a), award(second, b), award(third, c)])
@@ -133,11 +125,11 @@ fn deal<D: Depository>(
     award.settle(depository, SELLER, PRICE)?;
     println!(rt;
         "  {who} gets {lots} lots from 1 for {money}; {saving} saved and {rest} not needed are released",
-        who = award.bid.who.0,
-        lots = award.share.0,
-        money = PRICE.times(award.share).0,
-        saving = award.saved(PRICE).0,
-        rest = award.left_over().0
+        who = award.bid.who,
+        lots = award.share,
+        money = PRICE.times(award.share),
+        saving = award.saved(PRICE),
+        rest = award.left_over()
     )?;
     Ok(())
 }
