@@ -13,9 +13,11 @@ const MOST_READ: u64 = 4097;
 fn main(rt: HostRuntime) -> io::Result<()> {
     let mut tape = Vec::new(rt.alloc());
     rt.stdin().take(MOST_READ).read_to_end(&mut tape)?;
-    let text = match play(&tape) {
-        Ok(played) => lines_of(rt.alloc(), &played)?,
-        Err(fault) => refusal_line(rt.alloc(), fault)?,
+    let played = play(&tape);
+    // by reference: a run is large, and a match by value would copy it
+    let text = match &played {
+        Ok(played) => lines_of(rt.alloc(), played)?,
+        Err(fault) => refusal_line(rt.alloc(), *fault)?,
     };
     print!(rt; "{text}")
 }

@@ -42,15 +42,17 @@ impl Desk {
     }
 
     /// Makes a call.
-    pub(crate) fn call(self, call: Call) -> (Answer, Desk)
-        ensures answer { result.0 ≡ answer_to call self }
-        ensures after { result.1 ≡ desk_after call self }
+    // In place, as all that a command does is: a session is large, and each hand on by value would copy it.
+    pub(crate) fn call(&mut self, call: Call) -> Answer
+        ensures answer { result ≡ answer_to call self.old }
+        ensures after { self.new ≡ desk_after call self.old }
     {
-        let Desk { mut session, slip } = self;
         // blank, overwritten by run
         let mut answers = [Err(SessionFault::WrongPhase)];
-        let slip = run(&mut session, slip, &[call], &mut answers);
-        (answers[0], Desk { session, slip })
+        let held = self.slip.take();
+        let slip = run(&mut self.session, held, &[call], &mut answers);
+        self.slip = slip;
+        answers[0]
     }
 
     /// Annuls if struck, then closes. Afterwards no slip is held, for annul has spent it.

@@ -30,15 +30,14 @@ fn play_through(tape: &[u8], answers: &mut ArrayVec<TapeAnswer, MOST_BYTES>) -> 
     requires none { answers.old.items ≡ [] }
     ensures { Plays (length tape.now) tape.now start answers.new.items (floor_of result) }
 {
-    // A loop over the rest of the tape: each turn takes the stage that the one before it left, and a fault leaves nothing. As a
-    // chain both would be carried through a closure beside the answers.
+    // A loop over the rest of the tape: a fault leaves nothing of it, and as a chain the stage and the answers would be carried
+    // through a closure.
     let mut stage = Stage::Before(TableDepository::new());
     let mut rest = tape;
     while !rest.is_empty() {
         let offset = offset_of(tape, rest);
-        let (outcome, next, behind) = turn(rest, stage);
+        let (outcome, behind) = turn(rest, &mut stage);
         answers.push(TapeAnswer { offset, outcome });
-        stage = next;
         rest = behind;
     }
     stage
@@ -53,19 +52,16 @@ fn offset_of(tape: &[u8], rest: &[u8]) -> u16
     (tape.len() - rest.len()) as u16
 }
 
-/// Reads the command at the front of the tape and makes it. Answers what it came to, how far the run has come, and the rest of
-/// the tape: nothing, where the run ends with this command.
-fn turn(tape: &[u8], stage: Stage) -> (Done, Stage, &[u8])
-    ensures answer { result.0 ≡ (turned tape.now (floor_of stage)).answer }
-    ensures floor { floor_of result.1 ≡ (turned tape.now (floor_of stage)).floor }
-    ensures rest { result.2.now ≡ (turned tape.now (floor_of stage)).rest }
-    ensures shorter { 0 < length tape.now → length result.2.now < length tape.now }
+/// Reads the command at the front of the tape and makes it. Answers what it came to, and the rest of the tape: nothing, where
+/// the run ends with this command.
+fn turn<'a>(tape: &'a [u8], stage: &mut Stage) -> (Done, &'a [u8])
+    ensures answer { result.0 ≡ (turned tape.now (floor_of stage.old)).answer }
+    ensures floor { floor_of stage.new ≡ (turned tape.now (floor_of stage.old)).floor }
+    ensures rest { result.1.now ≡ (turned tape.now (floor_of stage.old)).rest }
+    ensures shorter { 0 < length tape.now → length result.1.now < length tape.now }
 {
     match read(tape) {
-        Ok((command, rest)) => {
-            let (done, next) = stage.perform(command);
-            (done, next, rest)
-        }
-        Err(fault) => (Err(fault), stage, &tape[tape.len()..]),
+        Ok((command, rest)) => (stage.perform(command), rest),
+        Err(fault) => (Err(fault), &tape[tape.len()..]),
     }
 }

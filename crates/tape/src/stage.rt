@@ -13,6 +13,7 @@ use command::Command;
 use depository::{Amount, BackOffice};
 use market::{Outcome, SessionFault};
 use session::Session;
+use std::mem;
 use table_depository::TableDepository;
 use units::Participant;
 
@@ -24,36 +25,41 @@ pub(crate) enum Stage {
 
 impl Stage {
     /// Makes a command.
-    pub(crate) fn perform(self, command: Command) -> (Done, Stage)
-        ensures answer { result.0 ≡ command_answer command (floor_of self) }
-        ensures after { floor_of result.1 ≡ command_after command (floor_of self) }
+    pub(crate) fn perform(&mut self, command: Command) -> Done
+        ensures answer { result ≡ command_answer command (floor_of self.old) }
+        ensures after { floor_of self.new ≡ command_after command (floor_of self.old) }
     {
         match command.checked() {
             Ok(command) => self.carry_out(command.into()),
-            Err(fault) => (Err(fault), self),
+            Err(fault) => Err(fault),
         }
     }
 
-    /// Does what a command asks for: pay-ins and the opening before open, calls after it. It takes the stage and hands one on,
-    /// since the opening makes a stage of the other kind out of the depository itself.
-    fn carry_out(self, task: Task) -> (Done, Stage)
-        ensures answer { result.0 ≡ task_answer task (floor_of self) }
-        ensures after { floor_of result.1 ≡ task_after task (floor_of self) }
+    /// Does what a command asks for: pay-ins and the opening before open, calls after it.
+    fn carry_out(&mut self, task: Task) -> Done
+        ensures answer { result ≡ task_answer task (floor_of self.old) }
+        ensures after { floor_of self.new ≡ task_after task (floor_of self.old) }
     {
-        match (self, task) {
-            (Stage::Before(mut depository), Task::PayIn(who, what)) => {
-                let done = pay_in(&mut depository, who, what);
-                (done, Stage::Before(depository))
-            }
-            (Stage::Before(depository), Task::Open) => {
-                let (opened, desk) = Desk::open(depository);
-                (raised(opened.map(|()| None)), Stage::Opened(desk))
-            }
-            (Stage::Opened(desk), Task::Call(call)) => {
-                let (answer, desk) = desk.call(call);
-                (raised(answer.map(Some)), Stage::Opened(desk))
-            }
-            (stage, _) => (Err(SessionFault::WrongPhase.into()), stage),
+        match self {
+            Stage::Before(depository) => match task {
+                Task::PayIn(who, what) => pay_in(depository, who, what),
+                Task::Open => {
+                    let (opened, desk) = Desk::open(*depository);
+                    match mem::replace(self, Stage::Opened(desk)) {
+                        Stage::Before(_) => raised(opened.map(|()| None)),
+                        // what was replaced is the depository. A desk could not be let go, so it is closed here
+                        Stage::Opened(there) => {
+                            let _ = there.close();
+                            unreachable!()
+                        }
+                    }
+                }
+                _ => Err(SessionFault::WrongPhase.into()),
+            },
+            Stage::Opened(desk) => match task {
+                Task::Call(call) => raised(desk.call(call).map(Some)),
+                _ => Err(SessionFault::WrongPhase.into()),
+            },
         }
     }
 

@@ -15,7 +15,7 @@ loop-rest-preserved c =
     let line = ap (λ at. line_of at c.turn-outcome.result.0) c.offset_of-offset.ensures ∙ ap (line_of (length tape - length rest)) c.turn-outcome.ensures.answer in
     record {
       room = omega (arith, c.push.ensures.len, c.loop-rest.invariant.room, shorter);
-      so_far = front_more (length tape) tape rest c.turn-outcome.result.2.now start (floor_of c.loop-rest.stage) (floor_of c.turn-outcome.result.1) c.loop-rest.answers.items c.push.new.self.items _
+      so_far = front_more (length tape) tape rest c.turn-outcome.result.1.now start (floor_of c.loop-rest.stage) (floor_of c.turn-outcome.new.stage) c.loop-rest.answers.items c.push.new.self.items _
           some line c.turn-outcome.ensures.rest c.turn-outcome.ensures.floor c.push.ensures.items c.loop-rest.invariant.so_far;
     }
 
