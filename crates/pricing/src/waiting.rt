@@ -1,4 +1,4 @@
-ghost use Rattle.std.specs.Prelude.{◌≡◌, ◌≤◌, ◌++◌, map, length, drop, reverse};
+ghost use Rattle.std.specs.Prelude.{◌≡◌, ◌≤◌, [], ◌++◌, map, length, drop, reverse};
 ghost use Rattle.market.specs.CutOff.{crosses as any_cross, cut_off_found, settled_between, by_sides, limit_of_earliest, waiting_at};
 ghost use Rattle.market.specs.Queues.{Queues};
 ghost use Rattle.pricing.specs.Lines.{summary_of, lines_at, next_limit};
@@ -29,7 +29,8 @@ impl Waiting<'_> {
         if !self.crosses() {
             return None;
         }
-        let lines = self.walk();
+        let mut lines = Lines::new();
+        self.walk(&mut lines);
         let best = candidates(lines.as_slice());
         Some(self.settled_between(best))
     }
@@ -40,7 +41,8 @@ impl Waiting<'_> {
         ensures answer { Queues self.entry.sells.now self.entry.buys.now → result ≡ summary_answer self.entry.sells.now self.entry.buys.now lines.old }
         ensures after { Queues self.entry.sells.now self.entry.buys.now → lines.new ≡ summary_after self.entry.sells.now self.entry.buys.now lines.old }
     {
-        let walk = self.walk();
+        let mut walk = Lines::new();
+        self.walk(&mut walk);
         let walked = walk.as_slice();
         if walked.len() > lines.len() {
             return Err(SessionFault::SliceTooShort);
@@ -59,15 +61,16 @@ impl Waiting<'_> {
         }
     }
 
-    /// A line for each waiting limit, price downward: level by level, the sells from the back and the buys from the front.
-    fn walk(self) -> Lines
-        ensures { Queues self.entry.sells.now self.entry.buys.now → result ≡ lines_at self.entry.sells.now self.entry.buys.now }
+    /// Writes a line for each waiting limit, price downward: level by level, the sells from the back and the buys from the front.
+    // Into the caller's lines: handed back by value, they would be copied whole, however few they are.
+    fn walk(self, lines: &mut Lines)
+        requires { lines.old ≡ [] }
+        ensures { Queues self.entry.sells.now self.entry.buys.now → lines.new ≡ lines_at self.entry.sells.now self.entry.buys.now }
     {
         let Waiting {
             mut sells,
             mut buys,
         } = self;
-        let mut lines = Lines::new();
         let mut supply = lots_in(sells);
         let mut demand = Lots(0);
         while let Some(price) = highest_limit(sells, buys) {
@@ -83,7 +86,6 @@ impl Waiting<'_> {
             sells = offered.rest;
             buys = asked.rest;
         }
-        lines
     }
 
     /// The one limit, or the mean of two limits if it is whole, or else one of the two.

@@ -12,7 +12,7 @@ use Rattle.pricing.proofs.waiting.Waiting.walk.Goals as goal
 pub loop-price-init : goal.loop-price-init
 loop-price-init c = λ q.
     let sells = c.args.self.sells.now in
-    rw c.new-lines.ensures (walk_starts sells c.args.self.buys.now (reverse sells) c.lots_in-supply.result.0 refl q (omega (arith, c.lots_in-supply.ensures, total-reverse lots_of sells, q.of_sells.bounded)))
+    rw c.requires (walk_starts sells c.args.self.buys.now (reverse sells) c.lots_in-supply.result.0 refl q (omega (arith, c.lots_in-supply.ensures, total-reverse lots_of sells, q.of_sells.bounded)))
 
 pub loop-price-smaller : goal.loop-price-smaller
 loop-price-smaller c =
