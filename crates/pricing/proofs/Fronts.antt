@@ -1,11 +1,11 @@
 -- The level at the front of a sorted list of orders: none behind it has its limit.
 use Rattle.std.proofs.Common.{◌≡◌, ℕ, ◌≤◌, Bool, false, eqb, Bor, List, [], ◌∷◌, length, take, drop, Option, refl, ◌∙◌, inl, inr, one-add, arith}
-use Rattle.std.specs.Fn.{CalledAt}
+use Rattle.std.specs.Fn.{Called, CalledAt}
 use Rattle.std.specs.Iterator.{Drains}
 use Rattle.std.specs.Iterator.Adapters.{take_while_source, take_while_callee, take_while_done, take_while_steps}
-use Rattle.std.specs.List.{AllByRecursion, prefix_len}
+use Rattle.std.specs.List.{AllByRecursion, FoldsTo, fold, prefix_len}
 use Rattle.std.proofs.lemmas.Iterator.{YieldsList}
-use Rattle.std.proofs.lemmas.Iterator.Consumers.{count_from_yields_List}
+use Rattle.std.proofs.lemmas.Iterator.Consumers.{count_from_yields_List, fold_from_yields_List}
 use Rattle.std.proofs.lemmas.Iterator.Search.{YieldsList-from_take_while}
 use Rattle.std.proofs.lemmas.List.Folds.{length-prefix_len}
 use denote.Param.Members.{Mut}
@@ -89,3 +89,11 @@ pub count_leading : {S A B F : Type 0} {steps : S → Option A → S → Type 0}
     ((xs : List A) × Drains (take_while_steps steps g) s xs × (r ≡ length xs)) → YieldsList steps v (take_while_source s) all → take_while_callee s ≡ f → take_while_done s ≡ false →
     ((x : A) (b : Bool) (q : F) → CalledAt g f x b q → (q ≡ f) × (b ≡ test (v x))) → r ≡ prefix_len test all
 count_leading {all = all} g test r ran y c d call = count_from_yields_List _ r ran (YieldsList-from_take_while g test y c d call) ∙ length-prefix_len test all
+
+-- and what is folded over them
+pub fold_leading : {S A B C F G : Type 0} {steps : S → Option A → S → Type 0} {v : A → B} {all : List B} {s : TakeWhile S F} {f : F} {e : G} (g : Mut F (Bor A × Unit {0}) Bool) (test : B → Bool) (k : Mut G (C × (A × Unit {0})) C) (h : C → B → C) (init r : C) →
+    ((xs : List A) × (q : G) × Drains (take_while_steps steps g) s xs × FoldsTo {P = G × C} (λ a x b. Called k a.0 (a.1, (x, tt)) b.1 b.0) (e, init) xs (q, r)) →
+    YieldsList steps v (take_while_source s) all → take_while_callee s ≡ f → take_while_done s ≡ false →
+    ((x : A) (b : Bool) (q : F) → CalledAt g f x b q → (q ≡ f) × (b ≡ test (v x))) →
+    ((a : C) (x : A) (b : C) (q : G) → Called k e (a, (x, tt)) b q → (q ≡ e) × (b ≡ h a (v x))) → r ≡ fold h init (take (prefix_len test all) all)
+fold_leading g test k h init r ran y c d passes adds = fold_from_yields_List k h init r ran (YieldsList-from_take_while g test y c d passes) adds
