@@ -53,7 +53,7 @@ module _ (s : State) (o : Order) (next : o.number.0 ≡ length s.orders + 1) (b 
       let sold = total_above (λ (d : Deal). d.sell.0) (λ d. d.lots.0) most new s.deals above (All-weaker _ (λ (d : Deal). d.sell.0 ≤ most) (λ d h. h.0) s.deals b.deals_known) in
       let bought = total_above (λ (d : Deal). d.buy.0) (λ d. d.lots.0) most new s.deals above (All-weaker _ (λ (d : Deal). d.buy.0 ≤ most) (λ d h. h.1) s.deals b.deals_known) in
       let cancelled = total_above (λ (c : Cancellation). c.order.0) (λ c. c.lots.0) most new s.cancellations above b.cancellations_known in
-      let others = total_above number_of lots_of most new (waiting s) above (waiting-known s b) in
+      let others = total_above number_of lots_of most new (waiting s) above (waiting-known s.orders b.numbered (waiting s) b.recorded) in
       omega (arith, total_moved f (entry ∷ waiting s) (waiting (entered s o)) moved)
 
   pub entered-books : InRange o → most < 512 → block_answer s.accounts o.participant (cover_for o.side o.limit o.accepted) ≡ Ok tt → Books (entered s o)
@@ -71,7 +71,7 @@ module _ (s : State) (o : Order) (next : o.number.0 ≡ length s.orders + 1) (b 
             (All-weaker (λ (e : Resting). Contains s.orders e.order) _ (λ e h. Contains-append_left s.orders (o ∷ []) e.order h) (waiting s) b.recorded);
         lots_wait = in_waiting (λ e. (0 < lots_of e) × (lots_of e ≤ e.order.accepted.0)) (omega arith, omega arith) b.lots_wait;
         distinct = distinct_moved (entry ∷ waiting s) (waiting (entered s o)) moved
-            (All-weaker _ _ (λ e h same. omega (arith, h)) (waiting s) (waiting-known s b), b.distinct);
+            (All-weaker _ _ (λ e h same. omega (arith, h)) (waiting s) (waiting-known s.orders b.numbered (waiting s) b.recorded), b.distinct);
         selling = joined_has (AllByRecursion (λ e. e.order.side ≡ Sell)) Sell o.side entry s.sells (λ same. all_placed (λ e. e.order.side ≡ Sell) queue_after entry s.sells same b.selling) b.selling;
         buying = joined_has (AllByRecursion (λ e. e.order.side ≡ Buy)) Buy o.side entry s.buys (λ same. all_placed (λ e. e.order.side ≡ Buy) queue_after entry s.buys same b.buying) b.buying;
         sells_in_order = joined_has (λ q. in_order queue_after q ≡ true) Sell o.side entry s.sells (λ _. placed_in_order queue_after queue_lawful entry s.sells b.sells_in_order) b.sells_in_order;

@@ -139,7 +139,7 @@ books-annulled n s b =
       buys_in_order = order_kept_by queue_after (stays n) s.buys b.buys_in_order;
       deals_known = b.deals_known;
       cancellations_known = All-append Known s.cancellations (map cancellation_of gone) b.cancellations_known
-          (All-map Known cancellation_of gone (all_kept_by _ _ (waiting s) (waiting-known s b)));
+          (All-map Known cancellation_of gone (all_kept_by _ _ (waiting s) (waiting-known s.orders b.numbered (waiting s) b.recorded)));
       balanced = All-weaker (BalancedOrder s) (BalancedOrder (annulled n s)) (balanced_order n s) s.orders b.balanced;
       covered = covered-annulled n s b.everyone (known-waiting s b) b.covered;
     }

@@ -7,8 +7,7 @@ use Rattle.std.proofs.lemmas.List.Elements.{All-contains, All-from_recursion}
 use Rattle.market.specs.declared.order.Order.{Order}
 use Rattle.market.specs.declared.order.Resting.{Resting}
 use Rattle.market.specs.Orders.{total_if, number_of}
-use Rattle.market.specs.State.{State, waiting}
-use Rattle.market.specs.Law.{NumberedFrom, Books}
+use Rattle.market.specs.Law.{NumberedFrom}
 use Rattle.market.proofs.Totals.{total_none}
 
 -- the next order gets the next number
@@ -25,11 +24,11 @@ pub numbers_known : (os : List Order) → NumberedFrom 1 os → AllByRecursion (
 numbers_known os a = numbered_below 1 (length os) os a (omega arith)
 
 -- nor that of a waiting one
-pub waiting-known : (s : State) → Books s → AllByRecursion (λ e. number_of e ≤ length s.orders) (waiting s)
-waiting-known s b =
-    let Known : Order → Type 0 = λ o. o.number.0 ≤ length s.orders in
-    All-weaker (λ (e : Resting). Contains s.orders e.order) (λ (e : Resting). Known e.order)
-    (λ e h. All-contains Known s.orders e.order (All-from_recursion Known s.orders (numbers_known s.orders b.numbered)) h) (waiting s) b.recorded
+pub waiting-known : (os : List Order) → NumberedFrom 1 os → (q : List Resting) → AllByRecursion (λ e. Contains os e.order) q → AllByRecursion (λ e. number_of e ≤ length os) q
+waiting-known os a q recorded =
+    let Known : Order → Type 0 = λ o. o.number.0 ≤ length os in
+    All-weaker (λ (e : Resting). Contains os e.order) (λ (e : Resting). Known e.order)
+    (λ e h. All-contains Known os e.order (All-from_recursion Known os (numbers_known os a)) h) q recorded
 
 -- nothing is of a number above all those that occur
 pub total_above : {X : Type 0} (number figure : X → ℕ) (most n : ℕ) (xs : List X) → most < n → AllByRecursion (λ x. number x ≤ most) xs → total_if (λ x. eqb (number x) n) figure xs ≡ 0

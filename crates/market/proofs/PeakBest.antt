@@ -1,9 +1,9 @@
 -- The best of a list of prices by a figure, and the lowest and the highest of them.
 use Rattle.std.proofs.Common.{◌≡◌, ℕ, ◌<◌, ◌≤◌, min, Bool, true, false, not, leb, List, [], ◌∷◌, length, get_or, filter, All, Contains, refl, subst, inl, inr, arith}
 use Rattle.std.specs.Cmp.{IsStrictWeakOrder}
-use Rattle.std.specs.List.{list_all}
+use Rattle.std.specs.List.{AllByRecursion, list_all}
 use Rattle.std.proofs.lemmas.Bool.{both_ways, not-true, ltb-false, leb-true, le-leb, cases_lt}
-use Rattle.std.proofs.lemmas.List.Elements.{All-contains, All-from_get_or, All-head, All-tail, All-weaker, Contains-append_cases, Contains-get_or, filter_passes}
+use Rattle.std.proofs.lemmas.List.Elements.{All-contains, All-from_get_or, All-from_recursion, All-head, All-tail, All-weaker, Contains-append_cases, Contains-get_or, filter_passes}
 use Rattle.std.proofs.lemmas.List.MinMax.{IsStrictWeakOrder-by_number, IsStrictWeakOrder-flip, IsFirstBest-from_best_of}
 use Rattle.std.proofs.lemmas.List.Sorted.{Contains-permutation, IsPermutation-filter_both}
 use Rattle.std.proofs.lemmas.List.Sums.{AllPass-from_list_all, list_all-from_AllPass}
@@ -68,3 +68,13 @@ pub lowest-le-highest : (ps : List ℕ) → 0 < length ps → lowest ps ≤ high
 lowest-le-highest [] some = absurd (omega arith)
 lowest-le-highest (p ∷ []) some = omega arith
 lowest-le-highest (p ∷ (q ∷ ps)) some = omega (arith, lowest-le-highest (q ∷ ps) (omega arith))
+
+-- the lowest is below each
+each_above : (low : ℕ) (ps : List ℕ) → (0 < length ps → low ≤ lowest ps) → AllByRecursion (λ p. low ≤ p) ps
+each_above low [] below = tt
+each_above low (p ∷ []) below = (below (omega arith), tt)
+each_above low (p ∷ (q ∷ ps)) below =
+    let under = below (omega arith) in (omega (arith, under), each_above low (q ∷ ps) (λ _. omega (arith, under)))
+
+pub lowest_below : (ps : List ℕ) (p : ℕ) → Contains ps p → lowest ps ≤ p
+lowest_below ps p there = All-contains (λ q. lowest ps ≤ q) ps p (All-from_recursion (λ q. lowest ps ≤ q) ps (each_above (lowest ps) ps (λ _. omega arith))) there
