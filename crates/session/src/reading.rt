@@ -22,7 +22,8 @@ impl<D: Depository> Session<D> {
         ensures answer { result ≡ summary_answer self.now.state.sells self.now.state.buys lines.old }
         ensures after { lines.new ≡ summary_after self.now.state.sells self.now.state.buys lines.old }
     {
-        self.book.queues().summary(lines)
+        let queues = self.book.queues();
+        queues.summary(lines)
     }
 
     /// Where the session stands.

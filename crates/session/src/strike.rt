@@ -39,6 +39,7 @@ impl<D: Depository> Session<D> {
     fn cut_off(&self) -> Option<Price>
         ensures { result ≡ cut_off_found self.now.state.sells self.now.state.buys }
     {
-        self.book.queues().cut_off()
+        let queues = self.book.queues();
+        queues.cut_off()
     }
 }

@@ -8,4 +8,4 @@ returns g c =
     let x = c.self.inside in
     let q = kept_queues x.phase x.book (g.D.AccountBook.accounts x.depository) c.self.invariant in
     subst (λ v. c.cut_off.result ≡ cut_off_found v.state.sells v.state.buys) c.self.view_is
-    (at_queues (λ sells buys. c.cut_off.result ≡ cut_off_found sells buys) _ _ x.book.sells x.book.buys c.queues.ensures.sells c.queues.ensures.buys q c.cut_off.ensures)
+    (at_queues (λ sells buys. c.cut_off.result ≡ cut_off_found sells buys) _ _ x.book.sells x.book.buys c.queues-queues.ensures.sells c.queues-queues.ensures.buys q c.cut_off.ensures)
