@@ -69,7 +69,7 @@ lowest-le-highest [] some = absurd (omega arith)
 lowest-le-highest (p ∷ []) some = omega arith
 lowest-le-highest (p ∷ (q ∷ ps)) some = omega (arith, lowest-le-highest (q ∷ ps) (omega arith))
 
--- the lowest is below each
+-- the lowest is at or below each
 each_above : (low : ℕ) (ps : List ℕ) → (0 < length ps → low ≤ lowest ps) → AllByRecursion (λ p. low ≤ p) ps
 each_above low [] below = tt
 each_above low (p ∷ []) below = (below (omega arith), tt)
